@@ -9,6 +9,19 @@ use std::io::ErrorKind;
 use std::rt::Files;
 use std::{fs, io};
 
+/// If the paths of changed folders have more than this number of bytes together, the folders are synced before further
+/// ones are made. So the list takes little memory, also if many files are in deep folders.
+const MOST_HELD: u64 = 1 << 24;
+
+// New folders on one path.
+#[derive(Drop)]
+struct Made {
+    // The path of the lowest one.
+    path: String,
+    // The number of new folders. The others are above the lowest one.
+    count: usize,
+}
+
 /// The folders in which a command makes files.
 ///
 /// Until a folder is synced, a loss of power can undo the new names in it. Each folder is synced only once, after all
@@ -17,8 +30,10 @@ use std::{fs, io};
 pub struct Folders {
     // The folders in which something has got a name since they were synced.
     changed: Vec<String>,
-    // The folders that did not exist before.
-    made: Vec<String>,
+    // The number of bytes of the paths in `changed`.
+    held: u64,
+    // The folders that did not exist before, in the order in which they were made.
+    made: Vec<Made>,
     // The folders that could not be synced. A warning was printed for each of them.
     told: Vec<String>,
 }
@@ -28,6 +43,7 @@ impl Folders {
     pub fn new(alloc: Global) -> Folders {
         Folders {
             changed: Vec::new(alloc),
+            held: 0,
             made: Vec::new(alloc),
             told: Vec::new(alloc),
         }
@@ -50,6 +66,7 @@ impl Folders {
             .is_some_and(|last| last.as_str() == folder);
         if !is_last {
             self.changed.push(String::from_str(alloc, folder)?)?;
+            self.held = self.held.saturating_add(folder.len() as u64);
         }
         Ok(())
     }
@@ -60,10 +77,18 @@ impl Folders {
     /// # Errors
     ///
     /// Fails if a folder cannot be made, or if memory cannot be allocated.
-    pub fn make_parent<R: Files>(&mut self, rt: &R, alloc: Global, path: &str) -> Result<()> {
+    pub fn make_parent<R: Files + Eprint>(
+        &mut self,
+        rt: &R,
+        alloc: Global,
+        path: &str,
+    ) -> Result<()> {
         let folder = parent_of(path);
         if folder.is_empty() {
             return Ok(());
+        }
+        if self.held > MOST_HELD {
+            self.sync(rt);
         }
         self.add_missing(rt, alloc, folder)?;
         match fs::create_dir_all(rt, folder) {
@@ -83,13 +108,18 @@ impl Folders {
         path: &str,
     ) -> Result<(), AllocError> {
         let mut folder = path;
+        let mut count = 0usize;
         for _ in 0..path.len() {
             if folder.is_empty() || exists(rt, folder) {
                 break;
             }
             self.add(alloc, folder)?;
-            self.made.push(String::from_str(alloc, folder)?)?;
+            count = count.saturating_add(1);
             folder = parent_of(folder);
+        }
+        if count > 0 {
+            let path = String::from_str(alloc, path)?;
+            self.made.push(Made { path, count })?;
         }
         Ok(())
     }
@@ -117,17 +147,25 @@ impl Folders {
             }
         }
         self.changed.clear();
+        self.held = 0;
     }
 
     /// Removes the new folders that are empty.
     pub fn remove_empty<R: Files>(&mut self, rt: &R) {
-        // Longer paths come first, so a folder is removed before the folder in which it is. If the paths cannot be
-        // sorted, some empty folders can be left.
-        let _ = self.made.sort_by(|one, other| other.len().cmp(&one.len()));
-        for folder in &self.made {
-            // This fails if the folder is not empty.
-            let _ = fs::remove_dir(rt, folder.as_str());
+        // The last ones come first, so a folder is removed before the folder in which it is.
+        for made in self.made.iter().rev() {
+            remove_made(rt, made);
         }
+    }
+}
+
+// Removes new folders on one path, the lowest one first.
+fn remove_made<R: Files>(rt: &R, made: &Made) {
+    let mut folder = made.path.as_str();
+    for _ in 0..made.count {
+        // This fails if the folder is not empty.
+        let _ = fs::remove_dir(rt, folder);
+        folder = parent_of(folder);
     }
 }
 
