@@ -1,11 +1,12 @@
 //! The states of the entries of a set, as they are printed.
 use crate::json::entry_json;
-use crate::log::{is_shown, tell_more};
+use crate::log::{Log, is_shown, tell_more};
+use rs_folders::failure::Result;
 use rs_folders::names::{Name, Shown};
 use rs_volume_files::scanner::State;
 use rs_volumes::description::Entry;
 use serde_json::{Value, put};
-use std::alloc::{AllocError, Global};
+use std::alloc::Global;
 use std::io;
 
 /// The states of the entries that a request is about.
@@ -54,23 +55,38 @@ impl<'a> Checked<'a> {
         tell_more(rt, count, "")
     }
 
-    /// Returns JSON for the entries of the request, with their states.
+    /// Ends a log, as [`Log::end`] does. With `--json`, the object gets the list `files` of the entries of the request,
+    /// with their states. There can be many entries, so the function prints each of them as soon as its JSON is made.
     ///
     /// # Errors
     ///
-    /// [`AllocError`] if memory cannot be allocated.
-    pub fn json(&self, alloc: Global) -> Result<Value, AllocError> {
-        let mut list = Vec::new(alloc);
+    /// Fails if the object cannot be printed, or if memory cannot be allocated.
+    pub fn end<R: Print>(&self, rt: &R, alloc: Global, log: Log, status: u8) -> Result<u8> {
+        if log.is_kept {
+            let object = log.text(status)?;
+            let front = object.as_str().strip_suffix('}').unwrap_or("");
+            print!(rt; "{front},\"files\":[")?;
+            self.tell_json(rt, alloc)?;
+            println!(rt; "]}}")?;
+        }
+        Ok(status)
+    }
+
+    // Prints JSON for the entries of the request, with commas between them.
+    fn tell_json<R: Print>(&self, rt: &R, alloc: Global) -> io::Result<()> {
+        let mut separator = "";
         let states = self.states.iter().zip(self.chosen);
         for (entry, (state, is_chosen)) in self.entries.iter().zip(states) {
             if *is_chosen {
                 let mut object = entry_json(alloc, entry)?;
                 let word = Value::try_from_str(alloc, self.word_of(*state))?;
                 put(&mut object, alloc, "state", word)?;
-                list.push(Value::Object(object))?;
+                let text = Value::Object(object).to_string(alloc)?;
+                print!(rt; "{separator}{text}")?;
+                separator = ",";
             }
         }
-        Ok(Value::Array(list))
+        Ok(())
     }
 }
 

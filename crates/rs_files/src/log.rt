@@ -153,10 +153,20 @@ impl Log {
     /// # Errors
     ///
     /// Fails if the object cannot be printed, or if memory cannot be allocated.
-    pub fn end<R: Print>(mut self, rt: &R, status: u8) -> Result<u8> {
-        if !self.is_kept {
-            return Ok(status);
+    pub fn end<R: Print>(self, rt: &R, status: u8) -> Result<u8> {
+        if self.is_kept {
+            let text = self.text(status)?;
+            println!(rt; "{text}")?;
         }
+        Ok(status)
+    }
+
+    /// Returns the text of the object, with the exit status as a further member.
+    ///
+    /// # Errors
+    ///
+    /// [`AllocError`] if memory cannot be allocated.
+    pub fn text(mut self, status: u8) -> Result<String, AllocError> {
         self.set("status", Value::from(status))?;
         let Log {
             alloc,
@@ -167,9 +177,7 @@ impl Log {
         for (name, values) in lists {
             put(&mut object, alloc, name, Value::Array(values))?;
         }
-        let text = Value::Object(object).to_string(alloc)?;
-        println!(rt; "{text}")?;
-        Ok(status)
+        Value::Object(object).to_string(alloc)
     }
 }
 

@@ -55,13 +55,12 @@ pub fn verify_quick<R: Files + Print + Eprint>(
     let mut log = Log::new(alloc, request, &[])?;
     if log.is_kept {
         log.set("quick", Value::Bool(true))?;
-        log.set("files", checked.json(alloc)?)?;
     }
     if log.is_told {
         checked.tell(rt, folder)?;
         tell_quick(rt, same, other)?;
     }
-    log.end(rt, status)
+    checked.end(rt, alloc, log, status)
 }
 
 // Counts the chosen entries that are whole, and the others.
@@ -123,13 +122,10 @@ pub fn verify_named<R: Files + Print>(
         chosen: chosen.as_slice(),
         words: ["whole", "damaged", "missing"],
     };
-    let mut log = Log::new(alloc, request, &["moved", "volumes"])?;
-    if log.is_kept {
-        log.set("files", checked.json(alloc)?)?;
-    }
+    let log = Log::new(alloc, request, &["moved", "volumes"])?;
     if log.is_told {
         let (whole, _) = counted(&checked);
         println!(rt; "whole: {whole}. The other files and the volumes were not compared")?;
     }
-    Ok(Some(log.end(rt, STATUS_WHOLE)?))
+    Ok(Some(checked.end(rt, alloc, log, STATUS_WHOLE)?))
 }

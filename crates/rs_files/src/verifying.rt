@@ -243,12 +243,11 @@ pub fn verify<R: Runtime>(rt: &R, alloc: Global, request: &Request) -> Result<u8
     report(rt, &found, &log, status)?;
     if log.is_kept {
         add_counts(&mut log, &found.scan)?;
-        log.set("files", checked(&found).json(alloc)?)?;
         let mut volumes = volumes_json(alloc, &found.scan)?;
         for path in &found.scan.unreadable {
             volumes.push(json!(in alloc; {"name": path, "state": "unreadable"})?)?;
         }
         log.set("volumes", Value::Array(volumes))?;
     }
-    log.end(rt, status)
+    checked(&found).end(rt, alloc, log, status)
 }
