@@ -15,6 +15,7 @@ use rs_volume_files::scanner::State;
 use rs_volume_files::volume::open_volumes;
 use rs_volumes::description::{Description, Entry, Kind, Version};
 use rs_volumes::placement::Place;
+use serde_json::Value;
 use std::alloc::{AllocError, Global};
 use std::fs;
 use std::ops::Range;
@@ -477,13 +478,15 @@ pub fn check_accepted(alloc: Global, request: &Request, found: &Found) -> Result
 }
 
 // Looks for the blocks of the old set in its volumes and files. Returns `None` if no old volume exists. If the old
-// volumes cannot be used, the function prints the reason, and returns `None`, too.
+// volumes cannot be used, the function prints the reason, and returns `None`, too. If an old volume exists, the log gets
+// the member `compared`, which says whether the old volumes can be used.
 fn old_set<R: Runtime>(
     rt: &R,
     alloc: Global,
     request: &Request,
     outputs: &[String],
     found: &Found,
+    log: &mut Log,
 ) -> Result<Option<Scan>> {
     let mut old = Vec::new(alloc);
     for path in outputs {
@@ -499,6 +502,7 @@ fn old_set<R: Runtime>(
         Ok(volumes) => scan_opened(rt, alloc, volumes, shown, folder),
         Err(failure) => Err(failure),
     };
+    log.set("compared", Value::Bool(scanned.is_ok()))?;
     match scanned {
         Ok(scan) => Ok(Some(scan)),
         Err(failure) => {
@@ -514,7 +518,8 @@ fn old_set<R: Runtime>(
 /// accept this. A file that was moved can be rotten, too. Otherwise returns the digests that are known from the old
 /// volumes.
 ///
-/// If the old volumes cannot be used, nothing is compared, and the function prints the reason.
+/// If the old volumes cannot be used, nothing is compared, and the function prints the reason. The member `compared` of
+/// the object of the log says whether the files were compared. If there is no old volume, there is no such member.
 ///
 /// # Errors
 ///
@@ -528,7 +533,7 @@ pub fn may_replace<R: Runtime>(
     log: &mut Log,
 ) -> Result<Option<Known>> {
     let mut files = Vec::new(alloc);
-    let Some(old) = old_set(rt, alloc, request, outputs, found)? else {
+    let Some(old) = old_set(rt, alloc, request, outputs, found, log)? else {
         return Ok(Some(Known { files, old: None }));
     };
     // If the path of a file is a symbolic link, its digest counts as not known.
