@@ -13,7 +13,8 @@ use rs_file_sets::targets::{Outcome, Targets};
 use rs_folders::counted::{Counted, Kinds};
 use rs_folders::failure::{Failure, Result};
 use rs_folders::hashing::CHUNK;
-use rs_folders::names::{Name, Shown};
+use rs_folders::leftovers::tell_leftovers;
+use rs_folders::names::{Name, Shown, paths_of};
 use rs_folders::placing::Goal;
 use rs_volume_files::volume::open_volumes;
 use rs_volumes::description::Entry;
@@ -174,6 +175,11 @@ pub fn restore<R: Runtime>(rt: &R, alloc: Global, request: &Request) -> Result<u
     let mut log = Log::new(alloc, request, &LISTS)?;
     add_counts(&mut log, &found.scan)?;
     let job = job_of(rt, alloc, request, &found);
+    // If the files were looked for in the same folder, `look_for` has named the unfinished files.
+    if job.goal.folder != found.folder.as_str() {
+        let paths = paths_of(alloc, job.goal.folder, job.goal.set.entries.as_slice())?;
+        tell_leftovers(rt, alloc, paths.as_slice())?;
+    }
     let status = mend(&job, &mut log)?;
     log.end(rt, status)
 }
