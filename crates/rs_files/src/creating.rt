@@ -12,8 +12,8 @@ use rs_file_sets::rolling::SummedBlocks;
 use rs_folders::counted::{Counted, Kinds};
 use rs_folders::failure::{Failure, Result};
 use rs_folders::hashing::{CHUNK, add_bytes};
-use rs_folders::identity::open_regular;
-use rs_folders::names::{Name, Shown, front_of_volume, paths_of};
+use rs_folders::identity::{identity_of, open_regular};
+use rs_folders::names::{Name, Shown, folder_to_open, front_of_volume, parent_of, paths_of};
 use rs_folders::output::at_path;
 use rs_folders::progress::Progress;
 use rs_folders::source::{FileBlocks, Holders, Origin, failure_of};
@@ -297,6 +297,8 @@ struct Made {
     cut: Cut,
     // The largest file: its size, and its name as messages show it.
     largest: (u64, String),
+    // The folder of the files.
+    folder: String,
     // The exit status. It is `STATUS_FAILED` if names that are not UTF-8 were left out, unless the request allows this.
     status: u8,
 }
@@ -320,6 +322,7 @@ fn made_of(alloc: Global, task: Task<'_>, found: &Found) -> Result<Made> {
         entries,
         cut,
         largest: (largest.0, format!(in alloc; "{}", Name(largest.1))?),
+        folder: found.folder.clone()?,
         status: if found.unreadable.is_empty() || task.request.skip_names {
             STATUS_WHOLE
         } else {
@@ -476,8 +479,17 @@ pub fn create<R: Runtime>(rt: &R, alloc: Global, request: &Request) -> Result<u8
     make(rt, alloc, task)
 }
 
+// Returns whether the other commands do not find the files beside the volume at `output`. They find them if the volume
+// is in the folder of the files, or directly in a folder that was protected.
+fn is_elsewhere<R: Files>(rt: &R, task: Task<'_>, folder: &str, output: &str) -> bool {
+    let own = identity_of(rt, folder_to_open(parent_of(output)));
+    let mut files = task.files.iter();
+    own != identity_of(rt, folder_to_open(folder))
+        && !files.any(|path| identity_of(rt, path.as_str()) == own)
+}
+
 // Prints the numbers of entries and blocks. Warns if the largest file has more bytes than all recovery blocks together.
-fn tell<R: Print + Eprint>(rt: &R, task: Task<'_>, made: &Made) -> io::Result<()> {
+fn tell<R: Files + Print + Eprint>(rt: &R, task: Task<'_>, made: &Made) -> io::Result<()> {
     let (entries, cut) = (made.entries, made.cut);
     let [output] = task.outputs else {
         let (volumes, lose) = (task.outputs.len(), task.request.lose);
@@ -487,6 +499,14 @@ fn tell<R: Print + Eprint>(rt: &R, task: Task<'_>, made: &Made) -> io::Result<()
     let recovery = Counted(u64::from(cut.recovery_count), "recovery block");
     let (bytes, path) = (cut.block_bytes, Shown(output.as_str()));
     println!(rt; "{path}: {entries} in {originals} of {bytes} bytes, {recovery}")?;
+    if task.request.folder.is_none()
+        && is_elsewhere(rt, task, made.folder.as_str(), output.as_str())
+    {
+        let folder = Shown(folder_to_open(made.folder.as_str()));
+        println!(rt;
+            "{path}: the files are in another folder, so the other commands need --folder {folder}"
+        )?;
+    }
     let most = bytes.saturating_mul(u64::from(cut.recovery_count));
     let (size, name) = (made.largest.0, made.largest.1.as_str());
     if size > most {
