@@ -70,7 +70,7 @@ const FOLDER: Choice = Choice(
     "folder",
     None,
     One("FOLDER"),
-    "The files are in this folder [default: the folder of the first volume]",
+    "The files are in this folder [default: the folder of the volume of create]",
 );
 
 const SEARCH: Choice = Choice(
@@ -105,7 +105,12 @@ const PROGRESS: Choice = Choice(
     "Show progress: auto, always or never [default: auto]",
 );
 
-const QUIET: Choice = Choice("quiet", Some('q'), Nothing, "Print only errors");
+const QUIET: Choice = Choice(
+    "quiet",
+    Some('q'),
+    Nothing,
+    "Print only errors and warnings",
+);
 
 const CREATE: Form = Form {
     name: "create",
@@ -271,7 +276,7 @@ const RESTORE: Form = Form {
 
 const INFO: Form = Form {
     name: "info",
-    paths: VOLUMES,
+    paths: ("VOLUME", "Volumes, each of which is read by itself"),
     about: "Show what a volume describes",
     after: "Example:\n  rs_files info photos.rsv",
     options: &[MEMORY, JSON],
