@@ -478,8 +478,8 @@ pub fn check_accepted(alloc: Global, request: &Request, found: &Found) -> Result
 }
 
 // Looks for the blocks of the old set in its volumes and files. Returns `None` if no old volume exists. If the old
-// volumes cannot be used, the function prints the reason, and returns `None`, too. If an old volume exists, the log gets
-// the member `compared`, which says whether the old volumes can be used.
+// volumes cannot be used, the function prints the reason, and returns `None`, too. If an old volume exists, the
+// member `compared` of the log says whether the old volumes can be used.
 fn old_set<R: Runtime>(
     rt: &R,
     alloc: Global,
