@@ -218,21 +218,20 @@ def records(volume):
         at = end if head and head_at(volume, end) else volume.find(MAGIC, at + (64 if head else 1))
 
 
-def second_description(volumes):
-    """Returns the first description of version 2 that is whole, and its set, or None. Parts of all copies are put
-    together."""
-    found = {}
-    for kind, index, name, body in (record for volume in volumes for record in records(volume)):
+def second_descriptions(volume, found, done):
+    """Yields each description of version 2 that is whole with this volume, and its set. `found` has the parts of the
+    volumes before this one: parts of all copies are put together. `done` has the sets of the descriptions so far."""
+    for kind, index, name, body in records(volume):
         size = int.from_bytes(body[32:40], "little")
         length = min(PART_BYTES, size - PART_BYTES * index)
         if kind == PART and len(body) == 40 + length > 40 and sha256(body[32:]).digest() == body[:32]:
             parts = found.setdefault((name, size), {})
             parts[index] = body[40:]
-            if len(parts) * PART_BYTES >= size:
+            if name not in done and len(parts) * PART_BYTES >= size:
                 text = b"".join(parts[i] for i in sorted(parts))
                 if sha256(text).digest() == name:
-                    return read_second(text), name
-    return None
+                    done.add(name)
+                    yield read_second(text), name
 
 
 # ---- Volumes of version 1
@@ -292,14 +291,38 @@ def has_digest(description, index, block):
     return is_there and sha256(block).digest() == description.digests[32 * index:32 * index + 32]
 
 
-def set_of(volumes):
-    """Returns the first description that is whole, and its set, which is None for version 1."""
-    for count, volume in enumerate(volumes, 1):
+def descriptions(volumes):
+    """Yields each whole description, in the order of the volumes and of their bytes, and its set, which is None for
+    version 1."""
+    found, done = {}, set()
+    for volume in volumes:
         first = first_description(volume)
-        found = (first[0], None) if first else second_description(volumes[:count])
-        if found:
+        if first:
+            yield first[0], None
+        else:
+            yield from second_descriptions(volume, found, done)
+
+
+def belongs(volume, description, name):
+    """Says whether a volume belongs to a set. A file that is no volume counts as one that does."""
+    first = first_description(volume)
+    if first:
+        return name is None and first[0] == description
+    names = {of for _, _, of, _ in records(volume)}
+    return name in names or not names
+
+
+def set_of(volumes):
+    """Returns the first whole description to which all volumes belong, and its set, which is None for version 1. If
+    there is none, returns the first whole description: the other volumes are then of no use. A file of a set can
+    itself be a volume, so a damaged volume can have the description of another set in front of its own."""
+    first = None
+    for found in descriptions(volumes):
+        if all(belongs(volume, *found) for volume in volumes):
             return found
-    raise ValueError("there is no whole description")
+        first = first or found
+    check(first, "there is no whole description")
+    return first
 
 
 def blocks_of(description, name, volumes):
@@ -383,8 +406,7 @@ def write_entry(new, entry, contents):
 
 def restore(new, places):
     """Writes all entries of a set into the folder NEW, also if some of them cannot be written. Returns the faults."""
-    # The first folder has no files: blocks of zeros are known without any file.
-    volumes, folders, faults = [], [os.devnull], []
+    volumes, folders, faults = [], [], []
     for place in places:
         if os.path.isdir(place):
             folders.append(place)
