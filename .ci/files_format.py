@@ -8,6 +8,7 @@ import os
 import random
 import shutil
 import subprocess
+import time
 
 import files_writer
 from files_common import PROGRAM, RANDOM, TOP, Folder, flipped, info, left_of, printed, read, run, spans, write, wrong
@@ -273,9 +274,9 @@ def restored_in_python(new, places):
 def restored_by_program(new, places):
     """Returns what `restore` writes into a new folder, and whether it succeeds."""
     done = subprocess.run([PROGRAM, "restore", *places, "--to", new, "-q"], stdout=subprocess.PIPE, stderr=subprocess.PIPE, timeout=20)
-    if done.returncode not in (0, 1, 3, 4):
+    if done.returncode not in (0, 3, 4):
         wrong(f"restore ends with status {done.returncode}: {done.stderr!r}")
-    return snapshot(new) if os.path.exists(new) else {}, done.returncode in (0, 1)
+    return snapshot(new) if os.path.exists(new) else {}, done.returncode == 0
 
 
 def readers():
@@ -288,6 +289,28 @@ def expected(items):
     made = {FOLDER: lambda item: ("folder", item.mode & 0o777), LINK: lambda item: ("link", item.target)}
     of_file = (lambda item: ("file", item.mode & 0o777, item.seconds * 10 ** 9 + item.nanoseconds, item.data))
     return {item.name: made.get(item.kind, of_file)(item) for item in items}
+
+
+def inner_volume():
+    """The first file of a set is itself a volume, and the first 4096 bytes of a volume of the set are zeroed. So the first whole description in
+    this volume is that of the inner volume. The readers restore the files of the set, in whatever order they get the volumes."""
+    inner = Made([Item(b"x", RANDOM.randbytes(2000))], 64, 5)
+    items = [Item(b"a.rsv", inner.volume()), Item(b"b", RANDOM.randbytes(60_000))]
+    with Folder() as at:
+        made = Made(items, 16_384, 3, volumes=3)
+        paths = [at(f"{number}.rsv") for number in range(3)]
+        for path, volume in zip(paths, made.volumes(3)):
+            write(path, volume)
+        damaged = bytes(4096) + read(paths[0])[4096:]
+        if not 0 < damaged.find(inner.copy()) < damaged.find(made.copy()):
+            wrong("the inner volume is not where the test expects it")
+        write(paths[0], damaged)
+        for name, restored in readers():
+            for left in (paths, paths[::-1], paths[:2], paths[1::-1]):
+                found = restored(at("new"), left)
+                if found != (expected(items), True):
+                    wrong(f"{name} restores {sorted(found[0])} of a set with a volume")
+                shutil.rmtree(at("new"))
 
 
 def all_kinds():
@@ -343,6 +366,24 @@ def longest_name():
                     wrong(f"{words[0]} of a name of 65,535 bytes in version {version}: {found}")
                 if read(at(folder, "a")) != items[0].data or read(at(folder, "z")) != b"" or len(os.listdir(at(folder))) != (2 if folder else 4):
                     wrong(f"{words[0]} of a name of 65,535 bytes in version {version} leaves {os.listdir(at(folder))}")
+
+
+def many_slashes():
+    """A name of 65,535 bytes can have 32,767 folders. If they are not there, `restore` takes little more time than `verify`."""
+    if not HAS_PROGRAM:
+        return
+    with Folder() as at:
+        items = sorted_items(*(Item(b"%03d" % number + b"/a" * 32_766, b"") for number in range(60)), Item(b"z", b""))
+        write(at("set.rsv"), Made(items, 64, 0).volume())
+        start = time.monotonic()
+        printed("verify", at("set.rsv"), "-q", status=1)
+        middle = time.monotonic()
+        found = json.loads(printed("restore", at("set.rsv"), "--to", at("new"), "--json", status=4)[0])
+        took = (middle - start, time.monotonic() - middle)
+        if took[1] > 5 * took[0] + 1:
+            wrong(f"verify and restore of names with 32,766 folders take {took[0]:.1f} and {took[1]:.1f} seconds")
+        if [len(found["failed"]), [file["name"] for file in found["restored"]], os.listdir(at("new"))] != [60, ["z"], ["z"]]:
+            wrong(f"restore of names with 32,766 folders: {found['status']}, {os.listdir(at('new'))}")
 
 
 def sets_by_rules():
@@ -437,7 +478,7 @@ def first_version():
     different places, or if both heads or both digests are damaged."""
     with Folder() as at:
         made = first_set(12)
-        copy, end = 64 + len(made.description), len(made.volume([])) - 64 - len(made.description)
+        copy = 64 + len(made.description)
         whole = made.volumes(2)
         one = [("whole", (), ()), ("the first head", (0,), ()), ("the first length", (17,), ()), ("the first digest", (40,), ()), ("the first description", (70, 300), ()),
                ("the second head", (), (-64,)), ("the second digest", (), (-1,)), ("the second description", (), (-70, -copy)), ("the number of records", (24, 31), (-40,)),
@@ -455,8 +496,22 @@ def first_version():
                     if found != (expected(made.items), True):
                         wrong(f"version 1, {name}: {reader} restores {sorted(found[0])}")
                     shutil.rmtree(at("new"))
-        if end < 0:
-            wrong("a volume of version 1 has another length")
+
+
+def first_bits():
+    """One bit of a volume of version 1 is changed, wherever it is: at most the recovery block of the record with this bit is lost. The program
+    gets all eight bits of each byte of both heads, and one bit of each other byte."""
+    with Folder() as at:
+        made = Made([Item(b"a", RANDOM.randbytes(6))], 4, 2, version=1)
+        volume, copy, cases, some = made.volume(), 64 + len(made.description), [], []
+        for bit in range(8 * len(volume)):
+            place = bit // 8
+            # A record has 4 bytes of the index of its block, 4 bytes that no reader looks at, and the 4 bytes of the block.
+            is_in_record = copy <= place < len(volume) - copy and (place - copy) % 12 not in range(4, 8)
+            cases.append((f"bit {bit % 8} of byte {place} of a volume of version 1", flipped(volume, bit), 1 if is_in_record else 2))
+            if place < 64 or place >= len(volume) - 64 or bit % 8 == place % 8:
+                some.append(cases[-1])
+        check_left(at, made, cases, some)
 
 
 def first_lengths():
@@ -500,14 +555,18 @@ def first_repaired():
         if [file["name"] for file in shown["files"]] != [item.name.decode() for item in made.items]:
             wrong(f"info of version 1 shows other files: {shown}")
         copy = 64 + len(made.description)
+        # In the last case, bytes of the block of the last record are missing.
+        last = len(volume) - copy
         for other, lost in ((volume, 0), (bytes(copy) + volume[copy:], 0), (volume[:-copy] + bytes(copy), 0), (volume[:-copy - 1], 1),
-                            (changed_at(volume, [copy + 100]), 1), (changed_at(volume, [24, 25]), 0)):
+                            (changed_at(volume, [copy + 100]), 1), (changed_at(volume, [24, 25]), 0), (volume[:last - 50] + volume[last - 40:], 1)):
             reset(other)
             os.remove(at("set", "d", "05"))
             write(at("set", "d", "04"), made.items[4].data[:64])
             found = json.loads(run("verify", at("set", "v.rsv"), "--json", status=1))
             if (found["lost_blocks"], found["whole_recovery_blocks"]) != (5, 6 - lost):
                 wrong(f"verify with version 1: {found}")
+            if found["volumes"][0]["state"] != ("whole" if other == volume else "damaged"):
+                wrong(f"verify of a volume of version 1 says: {found['volumes']}")
             # A damaged volume of version 1 is not written again.
             run("repair", at("set", "v.rsv"), "-q", status=0 if other == volume else 1)
             after = snapshot(at("set"))
@@ -608,4 +667,5 @@ def mutants():
         wrong(f"{sum(found)} of {count} changed volumes were restored whole: these are no good mutants")
 
 
-TESTS = (flipped_bits, moved_bytes, damaged_places, whole_copies, joined_volumes, all_entries, longest_name, rules, no_zeros, first_version, first_lengths, first_repaired, mutants)
+TESTS = (flipped_bits, moved_bytes, damaged_places, whole_copies, joined_volumes, inner_volume, all_entries, longest_name, many_slashes, rules, no_zeros, first_version,
+         first_bits, first_lengths, first_repaired, mutants)
