@@ -290,7 +290,10 @@ def killed_spread():
             kill(took, *restore)
             if tree(at("v")) != volumes or any(data != files[os.path.basename(name)] for name, data in tree(at("new")).items() if ".part" not in name):
                 wrong("a kill of restore left a file that is not whole, or changed a volume")
-            run(*restore, "--force")
+            parts = [at("new", name) for name in tree(at("new")) if ".part" in name]
+            said = run(*restore, "--force")
+            if any(f"{path}: warning: " not in said for path in parts):
+                wrong(f"restore after a kill does not name {parts}: {said}")
             if {name: data for name, data in tree(at("new", "set")).items() if ".part" not in name} != files:
                 wrong("restore after a kill does not give the same files")
 

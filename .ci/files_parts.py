@@ -93,7 +93,7 @@ def mended_volume():
 
 
 def leftovers():
-    """A file that a killed run has left is named by create, update, verify and repair, and is not protected. A file with another name is, and so
+    """A file that a killed run has left is named by create, update, verify, repair and restore, and is not protected. A file with another name is, and so
     is one that is named on the command line."""
     with Folder() as at:
         data = RANDOM.randbytes(3000)
@@ -123,6 +123,14 @@ def leftovers():
             wrong("create does not protect a file that is named")
         for path in parts:
             os.remove(path)
+        # A restore into another folder was killed. The next one restores the files beside the unfinished one.
+        os.mkdir(at("none"))
+        run("create", at("d"), "-o", at("e.rsv"), "-q", "--block", "512", "-r", "100%")
+        restore = ("restore", at("e.rsv"), "--folder", at("none"), "--to", at("to"), "--only", "d/a", "-q")
+        run(*restore, status=-9, env=killing)
+        part = at("to", "d", "a" + PART)
+        if printed(*restore, "--force") != ("", f"rs_files: {part}: warning: {LEFT}\n") or read(at("to", "d", "a")) != data or not os.path.exists(part):
+            wrong(f"restore into a folder with the file of a killed run: {sorted(tree(at('to')))}")
         write(at("d.rsv" + PART), b"")
         if f"{at('d.rsv')}{PART}: warning: {LEFT}\n" != printed("verify", at("d.rsv"))[1].removeprefix("rs_files: "):
             wrong("verify does not name the part of a volume")
@@ -274,9 +282,16 @@ def many_names(at, count):
     return len(description)
 
 
+def peak(*words):
+    """Runs the program, and returns what it printed and the largest number of KiB of memory that the system counted as resident."""
+    with open(os.devnull, "wb") as nothing, subprocess.Popen([PROGRAM, *words], stdout=subprocess.PIPE, stderr=nothing) as running:
+        out = running.stdout.read()
+        return out, os.wait4(running.pid, 0)[2].ru_maxrss
+
+
 def bounded():
     """A description that needs more memory than `--memory` allows is refused, and the message says how much it needs. With as much it is read,
-    and `info --json` takes no more."""
+    and `info --json` takes no more. `verify --json` takes little more than `verify`."""
     with Folder() as at:
         count = 100_000
         many_names(at, count)
@@ -294,6 +309,14 @@ def bounded():
         files = json.loads(out)["files"]
         if len(files) != count or files[7] != {"name": "000000007", "kind": "file", "size": 0}:
             wrong("info --json of many files")
+        for more in ((), ("--quick",)):
+            words = ("verify", at("many.rsv"), "--memory", f"{needed}M", *more)
+            (_, plain), (out, kept) = peak(*words), peak(*words, "--json")
+            if kept > plain + (30 << 10) and "RS_FILES" not in os.environ:
+                wrong(f"verify {more} of many files takes {plain} KiB, and with --json {kept} KiB")
+            files = json.loads(out)["files"]
+            if len(files) != count or files[7] != {"name": "000000007", "kind": "file", "size": 0, "state": "missing"}:
+                wrong(f"verify {more} --json of many files")
 
 
 def known_files():

@@ -164,7 +164,7 @@ def times():
             os.remove(at("d", name))
         run("restore", at("d.rsv"), "--to", at("other"), "-q")
         run("repair", at("d.rsv"), "-q")
-        run("restore", at("v", "volume0001.rsv"), at("v", "volume0002.rsv"), "--to", at("new"), "-q", status=(0, 1))
+        run("restore", at("v", "volume0001.rsv"), at("v", "volume0002.rsv"), "--to", at("new"), "-q")
         for folder in (at("d"), at("other", "d"), at("new", "d")):
             found = {name: os.stat(os.path.join(folder, name)).st_mtime for name in data}
             if found != seconds or any(read(os.path.join(folder, name)) != content for name, content in data.items()):
@@ -416,6 +416,20 @@ def own_parts():
         run("repair", at("d.rsv"), "-q")
         if tree(at("d")) != {**files, "e.damaged2": damaged}:
             wrong(f"files with names of parts, in their own folder: {sorted(tree(at('d')))}")
+        # A file with the name of a part is protected only if it is named.
+        files = {name: RANDOM.randbytes(700) for name in ("f", "f.rs_files.part", "f.rs_files.part2")}
+        for name, content in files.items():
+            write(at("parts", name), content)
+        run("create", *(at("parts", name) for name in files), "-o", at("parts.rsv"), "-q", "--block", "512", "-r", "100%")
+        run("restore", at("parts.rsv"), "--folder", at("none"), "--to", at("more"), "-q")
+        if tree(at("more")) != files:
+            wrong(f"files with names of parts, which were named: {sorted(tree(at('more')))}")
+        write(at("parts", "f"), b"damaged")
+        for name in ("f.rs_files.part", "f.rs_files.part2"):
+            os.remove(at("parts", name))
+        run("repair", at("parts.rsv"), "--folder", at("parts"), "-q")
+        if tree(at("parts")) != {**files, "f.damaged": b"damaged"}:
+            wrong(f"files with names of parts, which were named, in their own folder: {sorted(tree(at('parts')))}")
 
 
 def attributes_refused():
