@@ -34,6 +34,8 @@ def pages():
             wrong(f"the completion of {command} offers {sorted(completed(command, '--') ^ options)} wrongly or not")
         every |= options
     page = read(os.path.join(FOLDER, "rs_files.1")).decode().replace("\\-", "-")
+    if f' "{printed("--version")[0].strip()}" ' not in page.splitlines()[0]:
+        wrong("the manual page has another version than the program")
     if options_in(page.split(".SH OPTIONS")[1].split(".SH EXIT")[0]) != every:
         wrong(f"the manual page has other options: {options_in(page.split('.SH OPTIONS')[1].split('.SH EXIT')[0]) ^ every}")
     if set(re.findall(r"^\.B ([a-z]+)$", page.split(".SH DESCRIPTION")[1].split(".SH OPTIONS")[0], re.M)) != commands:

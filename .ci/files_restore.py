@@ -602,6 +602,22 @@ def said_by_create():
             os.mkfifo(at("set", f"pipe{number}"))
         if "and 12 more: --json lists all\n" not in printed(*create)[0]:
             wrong("create does not cut the list of what it left out")
+        # The other commands look in the folder of the volume, and in the folder above it if this is the folder of the set.
+        hint = "the files are in another folder, so the other commands need --folder"
+        write(at("set", "deep", "file"), RANDOM.randbytes(700))
+        for output, needed in ((("set.rsv",), False), (("set", "set.rsv"), False), (("other", "set.rsv"), True), (("set", "deep", "set.rsv"), True)):
+            shutil.rmtree(at("other"), ignore_errors=True)
+            os.makedirs(os.path.dirname(at(*output)), exist_ok=True)
+            create = ("create", at("set", "large"), at("set", "small")) if output[0] == "other" else ("create", at("set"))
+            folder = at("set") if output[0] == "other" else at()
+            out = printed(*create, "-o", at(*output), "--force", "-r", "100%")[0]
+            if (f"{at(*output)}: {hint} {folder}\n" in out) != needed or (hint in out) != needed:
+                wrong(f"create into {output} says {out!r}")
+            run("verify", at(*output), "-q", status=(1, 3) if needed else 0)
+            run("verify", at(*output), "--folder", folder, "-q")
+            if hint in printed(*create, "-o", at(*output), "--force", "-q")[0]:
+                wrong("create -q says where the files are")
+            os.remove(at(*output))
     header = read(os.path.join(TOP, "include/reed_solomon_simd.h")).decode()
     version = re.search(r'RS_VERSION_TEXT "([^"]*)"', header).group(1)
     if printed("--version")[0] != f"rs_files {version}\n":
@@ -609,8 +625,9 @@ def said_by_create():
     needed = {"split": ("--output", "--volumes"), "restore": ("--to",)}
     for command in ("create", "split", "update", "verify", "repair", "restore", "info"):
         text = printed(command, "--help")[0]
-        if command == "repair" and any(f" {status}: " not in text.replace("\n", " ") for status in (0, 1, 3, 4) if status):
-            wrong("the help text of repair lacks a status")
+        statuses = {"verify": "0134", "repair": "0134", "info": ""}.get(command, "034")
+        if re.findall(r"(?:Status |\s)(\d): ", text) != [*statuses]:
+            wrong(f"the help text of {command} names other statuses than {statuses}")
         if f"\n  rs_files {command} " not in text.split("Example")[1]:
             wrong(f"the help text of {command} has no example")
         if any(f"{option} <" not in text.split("\n")[2] for option in needed.get(command, ())):

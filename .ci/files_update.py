@@ -445,13 +445,18 @@ def refused_updates():
             printed("update", at("set.rsv"), status=4)
             if read(at("set.rsv")) != old:
                 wrong(f"update replaced the old volume {number}, which it cannot read")
-            _, errors = printed("create", at("set"), "-o", at("set.rsv"), "--force", *CREATE)
-            if "the files were not compared with this volume" not in errors or at("set.rsv") not in errors:
+            out, errors = printed("create", at("set"), "-o", at("set.rsv"), "--force", *CREATE, "--json")
+            if "the files were not compared with this volume" not in errors or at("set.rsv") not in errors or json.loads(out)["compared"] is not False:
                 wrong(f"create --force does not say that it cannot read the old volume {number}: {errors!r}")
             run("verify", at("set.rsv"))
         write(at("set.rsv"), damaged(read(at("set.rsv")), 128))
-        if printed("create", at("set"), "-o", at("set.rsv"), "--force", *CREATE)[1]:
+        out, errors = printed("create", at("set"), "-o", at("set.rsv"), "--force", *CREATE, "--json")
+        if errors or json.loads(out)["compared"] is not True:
             wrong("create --force prints an error about a damaged volume that it can read")
+        if json.loads(printed("update", at("set.rsv"), "--json")[0])["compared"] is not True:
+            wrong("update --json does not say that it compared the files")
+        if "compared" in json.loads(printed("create", at("set"), "-o", at("new.rsv"), *CREATE, "--json")[0]):
+            wrong("create --json without an old volume says whether it compared the files")
 
 
 def damages(volume):
@@ -606,8 +611,9 @@ def parts_alone():
             wrong(f"repair --json of volumes of split prints {found}")
         os.remove(paths[1] + ".damaged")
         write(paths[0], b"no volume")
-        if printed("repair", *paths, status=1)[0].splitlines()[-1:] == [] or sorted(os.listdir(at())) != ["gone", "parts"]:
-            wrong("repair with a volume that cannot be read")
+        said = printed("repair", *paths, status=1)[0].splitlines()[-1:]
+        if not said[0].endswith(" are not in these volumes: restore can still make all files") or sorted(os.listdir(at())) != ["gone", "parts"]:
+            wrong(f"repair with a volume that cannot be read says {said}")
         run("restore", *paths[1:], "--to", at(), "-q")
         if {name: data for name, data in tree(at("set")).items()} != files:
             wrong("restore after a repair of volumes of split")

@@ -179,7 +179,7 @@ def page():
     made = Made([Item(b"a", bytes(range(1, 133)), mode=0o644, seconds=1_000_000_000)], 66, 3, fields=((1, b"example"),))
     if shown["description"] != made.description or shown["head"] != made.block(2)[:64] or shown["part"] != made.copy()[:104]:
         wrong("FORMAT.md shows another description")
-    if not READER.head_at(shown["head"], 0) or expected(made.items)[b"a"][3] != bytes(range(1, 133)):
+    if not READER.head_at(shown["head"], 0):
         wrong("FORMAT.md shows a head that is not one")
 
 
