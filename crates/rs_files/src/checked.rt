@@ -74,7 +74,7 @@ impl<'a> Checked<'a> {
 
     // Prints JSON for the entries of the request, with commas between them.
     fn tell_json<R: Print>(&self, rt: &R, alloc: Global) -> io::Result<()> {
-        let mut separator = "";
+        let mut is_first = true;
         let states = self.states.iter().zip(self.chosen);
         for (entry, (state, is_chosen)) in self.entries.iter().zip(states) {
             if *is_chosen {
@@ -82,8 +82,11 @@ impl<'a> Checked<'a> {
                 let word = Value::try_from_str(alloc, self.word_of(*state))?;
                 put(&mut object, alloc, "state", word)?;
                 let text = Value::Object(object).to_string(alloc)?;
-                print!(rt; "{separator}{text}")?;
-                separator = ",";
+                if !is_first {
+                    print!(rt; ",")?;
+                }
+                print!(rt; "{text}")?;
+                is_first = false;
             }
         }
         Ok(())
