@@ -17,4 +17,3 @@ pub mod BlockChunks
 pub mod DerivativeStep
 pub mod ByteChunks
 pub mod Written
-pub mod Groups
