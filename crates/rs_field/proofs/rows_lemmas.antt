@@ -17,3 +17,4 @@ pub mod BlockChunks
 pub mod DerivativeStep
 pub mod ByteChunks
 pub mod Written
+pub mod Groups

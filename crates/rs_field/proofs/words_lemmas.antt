@@ -16,6 +16,7 @@ pub mod Locator
 pub mod Total
 pub mod RingSolver
 pub mod Combination
+pub mod Groups
 pub mod Factors
 pub mod Halves
 pub mod Padding

@@ -2,6 +2,7 @@
 pub use crate::rows::adding::AddedRows;
 pub use crate::rows::changing::{Change, ChangeRows};
 pub use crate::rows::engine::Engine;
+pub use crate::rows::read_blocks::{add_ifft_of_many, ifft_of_many};
 pub use crate::rows::read_transform::ifft_of_rows;
 pub use crate::rows::reading::{ReadRows, Writing};
 pub use crate::rows::row_changes::change_rows;

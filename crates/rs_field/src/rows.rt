@@ -13,6 +13,7 @@ mod kernel_engine;
 mod layers;
 pub mod layout;
 pub mod marked_rows;
+pub mod read_blocks;
 pub mod read_transform;
 pub mod reading;
 pub mod row_changes;

@@ -21,7 +21,7 @@ of_part : (ch : Chunks) (a m p : ℕ) → p < m → chunk (take m (drop a ch)) p
 of_part ch a m p below = grind (arith, common_steps)
 
 -- A chunk of a part is a chunk of the list into which the part was written.
-of_written : (ch part : Chunks) (a m p : ℕ) → a + m ≤ length ch → length part ≡ m → p < m
+pub of_written : (ch part : Chunks) (a m p : ℕ) → a + m ≤ length ch → length part ≡ m → p < m
     → chunk part p ≡ chunk (put_mid a m ch part) (a + p)
 of_written ch part a m p within long below = grind (arith, common_steps)
 

@@ -1,7 +1,8 @@
 -- The butterflies of two and of four words, as backward transforms, and rows that are written before their transform.
-use Rattle.std.proofs.Common.{◌≡◌, ℕ, zero, suc, ◌+◌, ◌-◌, ◌*◌, ◌%◌, ◌<◌, ◌≤◌, List, get_or, bit_xor}
+use Rattle.std.proofs.Common.{◌≡◌, ℕ, zero, suc, ◌+◌, ◌-◌, ◌*◌, ◌%◌, ◌<◌, ◌≤◌, List, get_or, length, bit_xor}
 use Rattle.std.proofs.Common.{refl, sym, ap, ap₂, ◌∙◌, subst, arith}
-use Rattle.std.specs.Int.Bits.{xor_comm}
+use Rattle.std.specs.Int.Bits.{xor_comm, xor_zero_r}
+use borrow.Rule.Slice.PartMut.{put_mid}
 use Rattle.rs_field.specs.rows.Layers.{ArePartsOf}
 use Rattle.rs_field.specs.rows.Pairs.{IsForwardTwo, IsBackwardTwo, at_two_added}
 use Rattle.rs_field.specs.declared.rows.reading.Writing.{Writing}
@@ -10,10 +11,12 @@ use Rattle.rs_field.specs.rows.TwoLayers.{IsForwardFour, IsBackwardFour, at_four
 use Rattle.rs_field.specs.rows.Written.{held, AreWritten}
 use Rattle.rs_field.specs.words.Tables.{IsSkew, times_factor}
 use Rattle.rs_field.specs.words.Transform.{forward, IsBackward}
+use Rattle.rs_field.proofs.rows_lemmas.BlockChunks.{of_written}
 use Rattle.rs_field.proofs.rows_lemmas.Layers.{IsBlock, IsLayer, factor, backward_undone, forward_parts, one_layer}
 use Rattle.rs_field.proofs.rows_lemmas.Layers.{pair_undone}
 use Rattle.rs_field.proofs.rows_lemmas.PartLoops.{one_row_of_part, single_rows}
-use Rattle.rs_field.proofs.words_lemmas.Combination.{forward-xor}
+use Rattle.rs_field.proofs.rows_lemmas.RowOffsets.{row_within}
+use Rattle.rs_field.proofs.words_lemmas.Combination.{forward-same, forward-xor}
 use Rattle.rs_field.proofs.words_lemmas.Halves.{xor_undo}
 
 -- What holds at 0 holds at each index below 1.
@@ -145,7 +148,7 @@ module _ (writing : Writing) (skew : List ℕ) (table : IsSkew skew) (shift n k 
         small (suc (suc (suc (suc i)))) few = absurd (omega (arith, few))
 
 -- A word that is added twice is gone.
-twice : (a b : ℕ) → bit_xor a (bit_xor a b) ≡ b
+pub twice : (a b : ℕ) → bit_xor a (bit_xor a b) ≡ b
 twice a b = xor_comm a (bit_xor a b) ∙ ap (λ v. bit_xor v a) (xor_comm a b) ∙ xor_undo b a
 
 -- Rows that are written to the forward transform of the old rows, and then transformed backward, are written to the
@@ -160,3 +163,32 @@ written_before writing count shift n k s words old mid put new before written af
     sym (forward-xor count shift (λ q. held writing (word_in old n k s q)) (word_in new n k s) i
     ∙ ap₂ bit_xor (before i few) (sym (after i few) ∙ written i few)
     ∙ twice (held writing (word_in mid n k s i)) (words i))
+
+-- A word that is added to 0 is the word.
+to_zero : (w : ℕ) → bit_xor 0 w ≡ w
+to_zero w = xor_comm 0 w ∙ xor_zero_r w
+
+-- Rows that replace others are what was written.
+pub replacing : (writing : Writing) (size shift n k s : ℕ) (words : ℕ → ℕ) (old new : Chunks)
+    → writing ≡ Writing.Replacing → IsBackward size shift words (word_in new n k s)
+    → AreWritten writing size shift n k s words old new
+unfolding held
+replacing writing size shift n k s words old new is made =
+    subst (λ (w : Writing). AreWritten w size shift n k s words old new) (sym is)
+    (λ i few. made i few ∙ forward-same size shift (word_in new n k s) (λ q. bit_xor 0 (word_in new n k s q)) i
+    (λ q low. sym (to_zero (word_in new n k s q))))
+
+-- Rows that were written to a part of a list, in place of what the part held, are rows of the list.
+pub part_replaced : (size shift n k s first a m : ℕ) (words : ℕ → ℕ) (old given made : Chunks) → a ≡ first * n
+    → m ≡ size * n → a + m ≤ length old → length made ≡ m → k < n
+    → AreWritten Writing.Replacing size shift n k s words given made
+    → IsBackward size shift words (λ q. word_in (put_mid a m old made) n k s (first + q))
+unfolding held
+part_replaced size shift n k s first a m words old given made begins long inside len few written i low =
+    written i low
+    ∙ forward-same size shift _ (λ q. word_in (put_mid a m old made) n k s (first + q)) i (λ q below.
+    let within : q * n + k < size * n = row_within q size k n below few in
+    let at : a + (q * n + k) ≡ (first + q) * n + k = omega (arith, begins) in
+    to_zero (word_in made n k s q)
+    ∙ ap (λ c. symbol c s) (of_written old made a m (q * n + k) inside len (omega (arith, within, long))
+    ∙ ap (chunk (put_mid a m old made)) at))

@@ -1,5 +1,5 @@
 -- What is written to rows: rows that replace them, or that are added to them.
-use Rattle.std.specs.Prelude.{ℕ, ◌+◌, bit_xor}
+use Rattle.std.specs.Prelude.{ℕ, ◌+◌, ◌*◌, ◌<◌, bit_xor}
 use Rattle.rs_field.specs.declared.rows.reading.Writing.{Writing}
 use Rattle.rs_field.specs.rows.Rows.{Chunks, word_in}
 use Rattle.rs_field.specs.words.StepBounds.{transform_steps}
@@ -23,3 +23,8 @@ steps_before Writing.Adding n = transform_steps n
 -- what writing the backward transform of n rows may count: the steps before, a step for each row, and a transform
 abbrev pub written_steps : Writing → ℕ → ℕ
 written_steps writing n = steps_before writing n + (n + transform_steps n)
+
+-- each of n groups of four new words is the backward transform of the same four old words
+abbrev pub AreGroupsWritten : ℕ → ℕ → (ℕ → ℕ) → (ℕ → ℕ) → Type 0
+AreGroupsWritten n shift old new =
+    (g : ℕ) → g < n → IsBackward 4 (shift + g * 4) (λ i. old (g * 4 + i)) (λ i. new (g * 4 + i))

@@ -92,8 +92,8 @@ fn transform_forward<E: Engine>(
     engine.fft(steps, &mut rows, 0, count, count, skew_delta);
 }
 
-// Transforms the `count` rows of `len` chunks that lie end to end in `x` backward.
-fn transform_backward<E: Engine>(
+/// Transforms the `count` rows of `len` chunks that lie end to end in `x` backward.
+pub(crate) fn transform_backward<E: Engine>(
     engine: &E,
     steps: &mut Steps,
     x: &mut [[u8; 64]],

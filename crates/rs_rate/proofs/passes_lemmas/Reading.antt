@@ -1,7 +1,7 @@
--- Originals that are read where they are: their words, and blocks of two or four of them.
-use Rattle.std.proofs.Common.{◌≡◌, ℕ, ◌+◌, ◌*◌, ◌/◌, ◌%◌, ◌^◌, ◌<◌, ◌≤◌, List, [], length, ◌++◌, All, inl, inr}
+-- Originals that are read where they are: their words, and blocks of them.
+use Rattle.std.proofs.Common.{◌≡◌, ℕ, zero, suc, ◌+◌, ◌*◌, ◌/◌, ◌%◌, ◌^◌, ◌<◌, ◌≤◌, List, [], length, ◌++◌, All, inl, inr}
 use Rattle.std.proofs.Common.{Bool, true, false}
-use Rattle.std.proofs.Common.{refl, ap, ap₂, subst, ◌∙◌, arith}
+use Rattle.std.proofs.Common.{refl, ap, ap₂, subst, ◌∙◌, arith, pow-suc}
 use Rattle.std.proofs.lemmas.Bool.{cases_lt}
 use Rattle.std.proofs.lemmas.Grind.{common_steps}
 use Rattle.std.proofs.lemmas.List.Elements.{All-get_or}
@@ -14,8 +14,8 @@ use Rattle.rs_field.proofs.rows_lemmas.LayoutLemmas.{symbol_of_chunk}
 use Rattle.rs_field.proofs.rows_lemmas.RowOffsets.{row_within}
 use Rattle.rs_rate.specs.declared.values.configuration.Configuration.{Configuration}
 use Rattle.rs_rate.specs.passes.Coding.{SumsBlocks}
-use Rattle.rs_rate.specs.passes.Reading.{CanRead, message_word, strip_rows}
-use Rattle.rs_rate.specs.values.Configured.{IsConfigured}
+use Rattle.rs_rate.specs.passes.Reading.{CanRead, message_word, rows_to_read, strip_rows}
+use Rattle.rs_rate.specs.values.Configured.{IsConfigured, block_of}
 use Rattle.rs_rate.proofs.values_lemmas.ConfiguredLemmas.{configuration-by}
 use Rattle.rs_rate.proofs.values_lemmas.HighCounts.{rows-fit}
 
@@ -32,29 +32,51 @@ read_word n k s i piece shards is few sized inside symbols =
     ∙ symbol_of_chunk (length piece / 64) (k * 32 + s) piece (omega (arith, long, inside, symbols)) (omega arith)
     ∙ ap (column (k * 32 + s)) is
 
--- A block of two or four rows has a power of two of them, and its transform takes at most a step for each row.
-pub block_power : (block : ℕ) → 1 < block → block ≤ 4 → block % 2 ≡ 0 → (d : ℕ) × (block ≡ 2 ^ d)
-block_power block some few even = elim (cases_lt block 3) [
-  | inl less ↦ (1, omega (arith, some, less))
-  | inr more ↦ (2, omega (arith, more, few, even))
-]
+-- A power of two above one is even.
+power_even : (block : ℕ) → 1 < block → (d : ℕ) × (block ≡ 2 ^ d) → block % 2 ≡ 0
+power_even block some (zero, is) = absurd (let no : ⊥ = omega (arith, some, is) in no)
+power_even block some (suc d, is) = let p = pow-suc 2 d in omega (arith, is, p)
+
+-- A power of two above four is a multiple of eight, by a power of two.
+pub many_rows : (block : ℕ) → 4 < block → (d : ℕ) × (block ≡ 2 ^ d) → (d : ℕ) × (block ≡ 8 * 2 ^ d)
+many_rows block more (zero, is) = absurd (let no : ⊥ = omega (arith, more, is) in no)
+many_rows block more (suc zero, is) = absurd (let no : ⊥ = omega (arith, more, is) in no)
+many_rows block more (suc (suc zero), is) = absurd (let no : ⊥ = omega (arith, more, is) in no)
+many_rows block more (suc (suc (suc d)), is) =
+    let once = pow-suc 2 d in
+    let twice = pow-suc 2 (suc d) in
+    let thrice = pow-suc 2 (suc (suc d)) in
+    (d, omega (arith, is, once, twice, thrice))
 
 few_steps : (transform_steps 2 ≡ 1) × (transform_steps 4 ≡ 4)
 unfolding transform_steps log2 first_below
 few_steps = (refl, refl)
 
-pub block_steps : (block : ℕ) → 1 < block → block ≤ 4 → block % 2 ≡ 0 → transform_steps block ≤ block
-block_steps block some few even = elim (cases_lt block 3) [
-  | inl less ↦
-      let two : 2 ≡ block = omega (arith, some, less) in
-      subst (λ (n : ℕ). transform_steps n ≤ n) two (omega (arith, few_steps.0))
-  | inr more ↦
-      let four : 4 ≡ block = omega (arith, more, few, even) in
-      subst (λ (n : ℕ). transform_steps n ≤ n) four (omega (arith, few_steps.1))
-]
+-- The transform of a block of two or four rows takes at most a step for each row.
+pub block_steps : (block : ℕ) → 1 < block → block ≤ 4 → (d : ℕ) × (block ≡ 2 ^ d) → transform_steps block ≤ block
+block_steps block some few power =
+    let even = power_even block some power in
+    elim (cases_lt block 3) [
+      | inl less ↦
+          let two : 2 ≡ block = omega (arith, some, less) in
+          subst (λ (n : ℕ). transform_steps n ≤ n) two (omega (arith, few_steps.0))
+      | inr more ↦
+          let four : 4 ≡ block = omega (arith, more, few, even) in
+          subst (λ (n : ℕ). transform_steps n ≤ n) four (omega (arith, few_steps.1))
+    ]
+
+-- The rows to read are those of a block, or more.
+pub rows_of_block : (block k : ℕ) → block ≤ rows_to_read block k
+unfolding rows_to_read
+rows_of_block block k = grind (arith, common_steps)
+
+-- If there are further blocks of more than four rows, there are spare rows for one block.
+pub spare_rows : (block k : ℕ) → 4 < block → block < k → rows_to_read block k ≡ 2 * block
+unfolding rows_to_read
+spare_rows block k many further = grind (arith, common_steps)
 
 -- The words of the rows at the front of chunks are those of these rows alone.
-pub front_word : (front back : Chunks) (block len k s q : ℕ) → length front ≡ block * len → q < block → k < len
+pub front_word : (front back : Chunks) (block len k s q : ℕ) → block * len ≤ length front → q < block → k < len
     → word_in (front ++ back) len k s q ≡ word_in front len k s q
 front_word front back block len k s q long few inside =
     let at : q * len + k < length front = omega (arith, row_within q block k len few inside, long) in
@@ -64,7 +86,7 @@ front_word front back block len k s q long few inside =
     get_or_front front back i at = grind (arith, common_steps)
 
 -- Sums of blocks in the rows at the front of chunks.
-pub front_sums : (front back : Chunks) (block n count len k s : ℕ) (old : ℕ → ℕ) → length front ≡ block * len → k < len
+pub front_sums : (front back : Chunks) (block n count len k s : ℕ) (old : ℕ → ℕ) → block * len ≤ length front → k < len
     → SumsBlocks block n count old (word_in front len k s)
     → SumsBlocks block n count old (word_in (front ++ back) len k s)
 front_sums front back block n count len k s old long inside (combinations, values, sums) =
@@ -76,8 +98,6 @@ pub reads_shorter : {c : Configuration} → CanRead c → (bytes : ℕ) → byte
 reads_shorter can bytes less whole = record {
   high = can.high;
   some = can.some;
-  few = can.few;
-  even = can.even;
   whole = whole;
   short = omega (arith, less, can.short);
 }
@@ -88,5 +108,6 @@ pub recovery_fits : (reads : Bool) (own : Configuration) → IsConfigured own �
 recovery_fits true own configured can =
     let by = configuration-by configured (can refl).high in
     let rows = rows-fit false own.original_count own.recovery_count by.0 in
-    omega (arith, rows.block, by.1)
+    let enough = rows_of_block (block_of own) own.original_count in
+    omega (arith, rows.block, by.1, enough)
 recovery_fits false own configured can = configured.recovery

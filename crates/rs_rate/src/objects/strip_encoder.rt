@@ -13,7 +13,7 @@ ghost use Rattle.rs_rate.specs.values.ChunkCounts.{chunk_count};
 ghost use Rattle.rs_rate.specs.values.Configured.{IsConfigured, rate_of};
 
 use crate::passes::message_encoding::encode_message;
-use crate::passes::read_encoding::can_read;
+use crate::passes::read_encoding::{can_read, is_reading_faster, read_rows};
 use crate::passes::strip_message::StripMessage;
 use crate::rows::memory::{make_room, set_chunks};
 use crate::rows::shard_rows::{add_at, shard_at};
@@ -28,7 +28,7 @@ use std::alloc::Global;
 pub struct StripEncoder {
     /// The counts, and the size of the last strip, or of the largest one before the first strip.
     pub(crate) configuration: Configuration,
-    /// Whether originals are read where they are. Then there are rows for one block only.
+    /// Whether originals are read where they are.
     pub(crate) reads: bool,
     /// The chunks of the rows, row after row, and any further chunks.
     pub(crate) chunks: Vec<[u8; 64]>,
@@ -66,9 +66,10 @@ impl StripEncoder {
         ensures refused { IfErr result (λ e. e ≡ Error.OutOfMemory) }
     {
         let configuration = Configuration::new(counts, strip_bytes.min(shard_bytes))?;
-        let reads = engine.reads_rows() && shard_bytes % 64 == 0 && can_read(configuration);
+        let is_faster = engine.reads_rows() && is_reading_faster(configuration);
+        let reads = is_faster && shard_bytes % 64 == 0 && can_read(configuration);
         let rows = if reads {
-            configuration.block_rows()
+            read_rows(configuration)
         } else {
             configuration.encoder_rows()
         };

@@ -20,7 +20,7 @@ use crate::values::configuration::Configuration;
 use rs_field::engine::{Engine, Steps};
 
 /// Computes the recovery shards of a message in the first rows. If `reads` is set, the originals are read where they
-/// are, and there are rows for one block only. Otherwise they are copied into rows.
+/// are. Otherwise they are copied into rows.
 pub(crate) fn encode_message<E: Engine, M: StripMessage>(
     engine: &E,
     steps: &mut Steps,

@@ -1,5 +1,5 @@
 -- Two layers after the transforms of the quarters, which are single entries, make the whole transform.
-use Rattle.std.proofs.Common.{◌≡◌, length, refl, ◌∙◌, arith}
+use Rattle.std.proofs.Common.{refl, ◌∙◌, arith}
 use Rattle.rs_field.proofs.words_lemmas.Halving.{cut_in_quarters, walsh-at, walsh-joined, walsh-one}
 use Rattle.rs_field.proofs.words.fwht.walsh_4.Goals as goal
 

@@ -11,6 +11,7 @@ invariant-loop-start g l = record {
   last : l.start < l.self.count + l.self.block;
   aligned : l.start % l.self.block ≡ 0;
   points : l.start + l.self.block ≤ 65536;
+  spare : length l.spare ≡ length l.initial.spare;
   length : length l.sums ≡ length l.initial.sums;
   sums : (k s : ℕ) → k < l.self.len → s < 32
       → SumsBlocks l.self.block (l.start / l.self.block) l.self.count
