@@ -1,6 +1,6 @@
 //! The engines that look up products by shuffles. The words of a chunk are in the lanes of vectors, and a product takes
-//! eight look-ups of nibbles, or six if the factor is small. In sums of several rows it takes four if the factors are
-//! small.
+//! eight look-ups of nibbles, or six if the factor is small. If several sums of at least six rows are made at once, it
+//! takes four if the factors are small.
 ghost use Rattle.std.specs.Prelude.{◌≡◌, ℕ};
 ghost use Rattle.rs_field.specs.words.Field.{power};
 ghost use Rattle.rs_field.specs.words.Products.{IsNibbleBytes};

@@ -105,15 +105,6 @@ pub part_length : (chunks part : Chunks) (start n : ℕ) → start + n ≤ lengt
     → length part ≡ length (take n (drop start chunks)) → length part ≡ n
 part_length chunks part start n fits same = same ∙ simp (length-take, length-drop) (omega arith)
 
--- If a part that is row i was written with its tail moved, the shard in row i is in order.
-pub moved-here : (chunks part : Chunks) (size i start n : ℕ) → start ≡ i * row_len size → n ≡ row_len size
-    → start + n ≤ length chunks → length part ≡ n
-    → in_order size (λ k. chunk part k) ≡ laid_out size (λ k. chunk (take n (drop start chunks)) k)
-    → shard_in_order (put_mid start n chunks part) size i ≡ shard_laid_out chunks size i
-unfolding row_chunk
-moved-here chunks part size i start n at width fits same moved =
-    search (rules, in_order-same, row_chunk-here, laid_out-same, part-read)
-
 -- If a part that is row i was written, the chunks of the other rows are unchanged.
 pub row_chunk-apart : (chunks part : Chunks) (size i j k start n : ℕ) → start ≡ i * row_len size → n ≡ row_len size
     → start + n ≤ length chunks → length part ≡ n → k < row_len size → j ≢ i
