@@ -1,6 +1,8 @@
 -- The locator of the rounds over strips: in each round the same rows are erased.
-use Rattle.std.proofs.Common.{rules, ◌≡◌, ℕ, ◌%◌, ◌<◌, List, Bool, Ok, length, sym, ap, ◌∙◌, subst, arith}
-use Rattle.std.specs.Prelude.{is_some, nat_le, nat_lt, ◌&&◌, ◌||◌, if◌then◌else◌}
+use Rattle.std.proofs.Common.{rules, ◌≡◌, ℕ, ◌%◌, ◌<◌, List, Bool, Ok, length, take, sym, ap, ◌∙◌, subst, arith}
+use Rattle.std.proofs.lemmas.Bool.{cases_lt}
+use Rattle.std.proofs.lemmas.List.{get_or-take, get_or_past, length-take}
+use Rattle.std.specs.Prelude.{Option, Some, is_some, nat_le, nat_lt, ◌&&◌, ◌||◌, if◌then◌else◌}
 use Rattle.rs_field.specs.code.Counts.{default_rate}
 use Rattle.rs_field.specs.code.Decoder.{DecoderState, enough_given}
 use Rattle.rs_field.specs.code.DirectLaws.{shard_in_row}
@@ -88,24 +90,35 @@ module _ (rows : DecoderRows) (is : IsSetUp default_rate rows.configuration) (s 
             ∙ ap (λ (t : DecoderState). is_some (shard_in_row t x)) same ∙ some-pieces start end s x;
       }
 
+  -- The first marks of the round are those of other rounds.
+  first-same : (marks : List Bool) → MarksReceived s marks → (n y : ℕ) → y < row_count (frame_at s.configuration)
+      → is_marked (take n marks) y ≡ is_marked (take n (given_marks rows.memory.marks)) y
+  first-same marks received n y inside =
+      let own = marks-received in
+      let same : is_marked marks y ≡ is_marked (given_marks rows.memory.marks) y =
+      received.exact y (omega (arith, inside, received.count)) ∙ sym (own.exact y (omega (arith, inside, own.count))) in
+      search (rules, cases_lt, get_or-take, get_or_past, length-take)
+
   -- The locator of the round is the locator of the other rounds.
-  pub locator-for : (after : DecoderRows) → IsLocated rows → after.memory.entries.items ≡ rows.memory.entries.items
-      → HasLocator after s
-  locator-for after located kept = (
+  pub locator-for : (after : DecoderRows) (n : ℕ)
+      → IsLocatorOf rows.configuration.frame (take n (given_marks rows.memory.marks)) after.memory.entries.items
+      → HasLocator after s n
+  locator-for after n located = (
     given_marks rows.memory.marks,
     marks-received,
-    subst (λ (l : List ℕ). IsLocatorOf (frame_at s.configuration) (given_marks rows.memory.marks) l) (sym kept)
-        (subst (λ (f : Frame). IsLocatorOf f (given_marks rows.memory.marks) rows.memory.entries.items) frame-is
-        located),
+    subst (λ (f : Frame). IsLocatorOf f (take n (given_marks rows.memory.marks)) after.memory.entries.items) frame-is
+        located,
   )
 
   -- The locator of the other rounds is the locator of this round.
-  pub locator-of : (before : DecoderRows) → HasLocator before s
-      → rows.memory.entries.items ≡ before.memory.entries.items → IsLocated rows
-  locator-of before (marks, received, locator) kept =
-      let own = marks-received in
-      subst (λ (f : Frame). IsLocatorOf f (given_marks rows.memory.marks) rows.memory.entries.items) (sym frame-is)
-      (subst (λ (l : List ℕ). IsLocatorOf (frame_at s.configuration) (given_marks rows.memory.marks) l) (sym kept)
-      (locator-same (frame_at s.configuration) marks (given_marks rows.memory.marks) before.memory.entries.items
-      (λ y less. received.exact y (omega (arith, less, received.count))
-      ∙ sym (own.exact y (omega (arith, less, own.count)))) locator))
+  pub locator-of : (before : DecoderRows) (located : Option ℕ)
+      → ((n : ℕ) → located ≡ Some n → HasLocator before s n)
+      → rows.memory.entries.items ≡ before.memory.entries.items → IsLocated rows located
+  locator-of before located has kept n is =
+      let (marks, received, locator) = has n is in
+      subst (λ (f : Frame). IsLocatorOf f (take n (given_marks rows.memory.marks)) rows.memory.entries.items)
+      (sym frame-is)
+      (subst (λ (l : List ℕ). IsLocatorOf (frame_at s.configuration) (take n (given_marks rows.memory.marks)) l)
+      (sym kept)
+      (locator-same (frame_at s.configuration) (take n marks) (take n (given_marks rows.memory.marks))
+      before.memory.entries.items (first-same marks received n) locator))

@@ -1,5 +1,5 @@
 -- Encoders and decoders that are ready for strips of received shards, and the messages that encoders take.
-use Rattle.std.specs.Prelude.{◌≡◌, ℕ, ◌%◌, ◌<◌, ◌≤◌, Bool, true, List, [], Option, Some, None, unwrap_or}
+use Rattle.std.specs.Prelude.{◌≡◌, ℕ, ◌%◌, ◌<◌, ◌≤◌, Bool, true, List, [], take, Option, Some, None, unwrap_or}
 use Rattle.rs_field.specs.code.Column.{Shard}
 use Rattle.rs_field.specs.code.Counts.{default_rate}
 use Rattle.rs_field.specs.code.Decoder.{DecoderState, fresh_decoder, originals_given, recovery_given}
@@ -15,17 +15,18 @@ use Rattle.reed_solomon_simd.specs.declared.strip_rounds.Rounds.{Rounds}
 use Rattle.reed_solomon_simd.specs.Base.{MarksReceived}
 use Rattle.reed_solomon_simd.specs.Making.{strip_configuration}
 
--- rows have the locator for rounds in which the shards with the indexes of the received ones are given
-abbrev pub HasLocator : DecoderRows → DecoderState → Type 0
-HasLocator rows s =
-    (marks : List Bool) × MarksReceived s marks × IsLocatorOf (frame_at s.configuration) marks rows.memory.entries.items
+-- rows have the locator for n first marks, in rounds in which the shards with the indexes of the received ones are given
+abbrev pub HasLocator : DecoderRows → DecoderState → ℕ → Type 0
+HasLocator rows s n =
+    (marks : List Bool) × MarksReceived s marks
+    × IsLocatorOf (frame_at s.configuration) (take n marks) rows.memory.entries.items
 
 -- a decoder without shards has room for strips of n bytes of received shards; after the first round it has the locator
 pub record IsReadyToDecode (rounds : Rounds) (s : DecoderState) (n : ℕ) : Type 0 where
   pub size : ℕ
   pub room : n ≤ size
   pub fresh : decoder_state default_rate rounds.decoder.rows ≡ fresh_decoder (strip_configuration s size)
-  pub located : rounds.is_located ≡ true → HasLocator rounds.decoder.rows s
+  pub located : (m : ℕ) → rounds.located ≡ Some m → HasLocator rounds.decoder.rows s m
 
 -- an encoder has room for strips of n bytes of received shards; if it reads originals where they are, no strip has a
 -- tail

@@ -1,5 +1,5 @@
 //! Rounds over the strips of received shards: a decoder has room for one strip. In all strips the same rows are erased,
-//! so the first round makes the locator of these rows for all.
+//! so the first round makes the locator for all.
 ghost use Rattle.std.specs.Prelude.{◌≡◌, ◌-◌, ◌<◌, ◌≤◌, length, Ok, IfOk, IfErr};
 ghost use Rattle.rs_field.specs.code.Counts.{default_rate};
 ghost use Rattle.rs_field.specs.code.Decoder.{IsDecoder, enough_given, Restored, NoneAgrees};
@@ -21,30 +21,28 @@ use rs_rate::rate::strips::StripDecoder;
 #[derive(Drop)]
 pub(crate) struct Rounds {
     decoder: StripDecoder,
-    // True if the decoder has the locator for transforms, which is the same in each round.
-    is_located: bool,
+    // What the locator in the decoder was made for, or `None` before the first round.
+    located: Option<usize>,
 }
 
 impl Rounds {
-    ghost use Rattle.std.specs.Prelude.{◌≡◌, ◌-◌, ◌<◌, true, false, length, Ok, IfOk, IfErr};
+    ghost use Rattle.std.specs.Prelude.{◌≡◌, ◌-◌, ◌<◌, length, None, Ok, IfOk, IfErr};
     ghost use Rattle.rs_field.specs.code.Counts.{default_rate};
     ghost use Rattle.rs_field.specs.code.Decoder.{IsDecoder, enough_given, Restored, NoneAgrees};
     ghost use Rattle.rs_field.specs.code.Pieces.{IsStrip};
     ghost use Rattle.rs_field.specs.code.PieceStates.{state_of_pieces};
     ghost use Rattle.rs_rate.specs.objects.ResultView.{restored_originals};
-    ghost use Rattle.rs_rate.specs.passes.Located.{IsLocated};
-    ghost use Rattle.rs_rate.specs.rows.DecoderView.{decoder_state, restored_by_rows, restored_from};
-    ghost use Rattle.rs_rate.specs.values.SumCosts.{AreSumsCheaper};
+    ghost use Rattle.rs_rate.specs.rows.DecoderView.{restored_by_rows, restored_from};
     ghost use Rattle.reed_solomon_simd.specs.Rounds.{IsReadyToDecode};
 
     /// Makes rounds of a decoder without shards.
     pub(crate) fn new(decoder: StripDecoder) -> Rounds
         ensures decoder { result.decoder ≡ decoder }
-        ensures first { result.is_located ≡ false }
+        ensures first { result.located ≡ None }
     {
         Rounds {
             decoder,
-            is_located: false,
+            located: None,
         }
     }
 
@@ -79,26 +77,7 @@ impl Rounds {
         decoder.narrow(end - start);
         add_original_pieces(decoder, received, start, end);
         add_recovery_pieces(decoder, received, start, end);
-        self.locate_once(engine);
-        self.decoder
-            .decode(engine, &mut Steps::new(), self.is_located)
-    }
-
-    // Computes the locator in the first round, unless so few sums are needed that rounds use direct sums if the engine
-    // has logarithms. Enough shards were added.
-    fn locate_once<E: Engine>(&mut self, engine: &E)
-        requires enough { enough_given (decoder_state default_rate self.old.decoder.rows) ≡ Ok tt }
-        requires located { self.old.is_located ≡ true → IsLocated self.old.decoder.rows }
-        ensures located { self.new.is_located ≡ true → IsLocated self.new.decoder.rows }
-        ensures sums { self.new.is_located ≡ false
-            → let c = self.old.decoder.rows.configuration in
-            AreSumsCheaper c.frame c.original_count self.old.decoder.rows.recovery_given }
-        ensures state { decoder_state default_rate self.new.decoder.rows
-            ≡ decoder_state default_rate self.old.decoder.rows }
-    {
-        if !self.is_located {
-            self.is_located = self.decoder.locate(engine, &mut Steps::new());
-        }
+        decoder.decode(engine, &mut Steps::new(), &mut self.located)
     }
 
     /// Lends the originals that the last round restored. `restored_count` is their number.

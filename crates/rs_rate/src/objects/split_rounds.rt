@@ -91,7 +91,7 @@ pub fn decode_round<E: Engine, C: RateMarker>(
         ≡ ⟦<Decoder<E, C> as RateDecoder<E>>⟧.room decoder.old }
 {
     decoder.rows.check_enough_given()?;
-    decode_rows(&decoder.engine, steps, &mut decoder.rows, false)
+    decode_rows(&decoder.engine, steps, &mut decoder.rows, &mut None)
 }
 
 /// Lends the originals that are in a decoder after a round that restored `restored_count` originals. Before the first

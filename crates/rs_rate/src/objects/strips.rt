@@ -7,8 +7,6 @@ ghost use Rattle.rs_rate.specs.rows.DecoderView.{decoder_state, restored_by_rows
 
 use crate::objects::rate_object::RateObject;
 use crate::passes::decoding::decode_rows;
-use crate::passes::direct::are_sums_used;
-use crate::passes::locators::make_locator;
 use crate::rows::decoder_work::DecoderRows;
 use crate::values::rate_marker::{DefaultRateMarker, RateMarker};
 use rs_field::engine::{Engine, Steps};
@@ -21,10 +19,9 @@ impl<C: RateMarker> RateObject<(), C, DecoderRows> {
     ghost use Rattle.std.specs.Prelude.{true, false, length, IfOk, MatchResult};
     ghost use Rattle.rs_field.specs.code.Decoder.{with_original, with_recovery};
     ghost use Rattle.rs_field.specs.code.Outcome.{answer_of, state_after};
-    ghost use Rattle.rs_field.specs.words.StepBounds.{LocatorCounts};
-    ghost use Rattle.rs_rate.specs.passes.Located.{IsLocated};
-    ghost use Rattle.rs_rate.specs.values.SumCosts.{AreSumsCheaper};
+    ghost use Rattle.rs_rate.specs.passes.Located.{AreLocated, IsLocated};
     ghost use Rattle.rs_rate.specs.rows.DecoderView.{restored_from};
+    ghost use Rattle.rs_rate.specs.rows.Marks.{given_marks};
 
     /// Sets a decoder without shards up for shards of this size, which is not larger than its own. Its locator stays.
     #[inline(always)]
@@ -67,30 +64,11 @@ impl<C: RateMarker> RateObject<(), C, DecoderRows> {
         self.rows.take_recovery_shard(index, shard);
     }
 
-    /// Computes the locator of the rows without shards, unless so few sums are needed that `decode` uses direct sums if
-    /// the engine has logarithms. Returns whether it did. Enough shards were added.
-    pub fn locate<E: Engine>(&mut self, engine: &E, steps: &mut Steps) -> bool
-        requires { enough_given (decoder_state C.rate self.old.rows) ≡ Ok tt }
-        ensures located { result ≡ true → IsLocated self.new.rows }
-        ensures sums { result ≡ false
-            → let c = self.old.rows.configuration in
-            AreSumsCheaper c.frame c.original_count self.old.rows.recovery_given }
-        ensures state { decoder_state C.rate self.new.rows ≡ decoder_state C.rate self.old.rows }
-        ensures counts { LocatorCounts steps.old steps.new }
-    {
-        if are_sums_used(self.rows.tally(false)) {
-            return false;
-        }
-        let frame = self.rows.configuration.frame;
-        let memory = &mut self.rows.memory;
-        let entries = memory.entries.as_mut_slice();
-        make_locator(engine, steps, entries, memory.marks.given(), frame);
-        true
-    }
-
     /// Restores the originals that were not added, and ends the round. The restored originals are then in the decoder.
-    /// Returns their number. Enough shards were added. If `is_located`, the locator was computed for these shards or
-    /// for others with the same indexes, and it stays.
+    /// Returns their number. Enough shards were added.
+    ///
+    /// `located` tells what the locator in the decoder was made for. It is `None` in the first round, and then for the
+    /// next round with shards of the same indexes, which makes no other one.
     ///
     /// # Errors
     ///
@@ -99,10 +77,10 @@ impl<C: RateMarker> RateObject<(), C, DecoderRows> {
         &mut self,
         engine: &E,
         steps: &mut Steps,
-        is_located: bool,
+        located: &mut Option<usize>,
     ) -> Result<usize, Error>
         requires enough { enough_given (decoder_state C.rate self.old.rows) ≡ Ok tt }
-        requires located { is_located ≡ true → IsLocated self.old.rows }
+        requires located { IsLocated self.old.rows located.old }
         ensures answer { MatchResult result
             (λ _. Restored (decoder_state C.rate self.old.rows) (restored_by_rows self.new.rows))
             (NoneAgrees (decoder_state C.rate self.old.rows)) }
@@ -111,9 +89,10 @@ impl<C: RateMarker> RateObject<(), C, DecoderRows> {
             DecodeCountsAt C.rate c.original_count c.recovery_count steps.old steps.new }
         ensures state { decoder_state C.rate self.new.rows
             ≡ fresh_decoder (decoder_state C.rate self.old.rows).configuration }
-        ensures locator { is_located ≡ true
-            → self.new.rows.memory.entries.items ≡ self.old.rows.memory.entries.items }
+        ensures located { AreLocated self.old.rows.configuration.frame
+            (given_marks self.old.rows.memory.marks) located.new
+            self.new.rows.memory.entries.items }
     {
-        decode_rows(engine, steps, &mut self.rows, is_located)
+        decode_rows(engine, steps, &mut self.rows, located)
     }
 }

@@ -12,8 +12,8 @@ ghost use Rattle.rs_rate.specs.rows.DecoderRoom.{memory_room};
 ghost use Rattle.rs_field.specs.code.Frame.{original_row, row_count};
 ghost use Rattle.rs_rate.specs.values.Configured.{configuration_at, IsConfigured, rows_to_decode};
 ghost use Rattle.rs_rate.specs.rows.DecoderView.{decoder_state, restored_by_rows, restored_from};
-ghost use Rattle.rs_rate.specs.passes.Located.{IsLocated};
-ghost use Rattle.rs_rate.specs.passes.Decoding.{find_steps, FindsWords, IsLocatorOf, RestoresShards};
+ghost use Rattle.rs_rate.specs.passes.Located.{AreLocated, IsLocated};
+ghost use Rattle.rs_rate.specs.passes.Decoding.{find_steps, FindsWords, RestoresShards};
 ghost use Rattle.rs_rate.specs.rows.Marks.{CanBeRestored};
 ghost use Rattle.rs_field.specs.rows.Layout.{row_len};
 ghost use Rattle.rs_rate.specs.rows.Marks.{given_marks, restored_marks, mark_count, WantsMissing};
@@ -22,7 +22,7 @@ ghost use Rattle.rs_rate.specs.values.ChunkCounts.{chunk_count};
 ghost use Rattle.rs_rate.specs.rows.ShardRows.{shard_laid_out, shard_in_order};
 
 use crate::passes::direct::{MOST_ROWS, are_sums_used, sum_rows};
-use crate::passes::locators::{make_locator, make_locator_once};
+use crate::passes::locators::make_locator_once;
 use crate::passes::restoring_rows::restore_rows;
 use crate::passes::sums::{SumBase, list_base};
 use crate::rows::decoder_work::DecoderRows;
@@ -33,17 +33,26 @@ use rs_field::engine::layout::row_len;
 use rs_field::engine::{Engine, GfElement, ShardsRefMut, Steps};
 use rs_field::error::Error;
 
+// What a round found, and what the entries of the locator are after it.
+#[derive(Clone, Copy)]
+struct Found {
+    // True if some message agrees with all given shards.
+    agrees: bool,
+    // If the entries of the locator were made, the number of first marks of given shards that they were made for.
+    located: Option<usize>,
+}
+
 // Restores the missing originals and returns their number, or fails if no message agrees with all given shards. The
-// round ends. If `is_located`, the entries are the locator for these shards, and they stay.
+// round ends. `located` tells what the entries of the locator were made for, before and after the round.
 pub(crate) fn decode_rows<E: Engine>(
     engine: &E,
     steps: &mut Steps,
     rows: &mut DecoderRows,
-    is_located: bool,
+    located: &mut Option<usize>,
 ) -> Result<usize, Error>
     requires enough { rows.old.configuration.original_count
         ≤ rows.old.originals_given + rows.old.recovery_given }
-    requires located { is_located ≡ true → IsLocated rows.old }
+    requires located { IsLocated rows.old located.old }
     ensures state { (rate : Rate)
         → decoder_state rate rows.new
         ≡ fresh_decoder (configuration_at rate rows.old.configuration) }
@@ -55,15 +64,16 @@ pub(crate) fn decode_rows<E: Engine>(
     ensures configuration { rows.new.configuration ≡ rows.old.configuration }
     ensures room { memory_room rows.new.memory ≡ memory_room rows.old.memory }
     ensures counts { DecodeCounts (rows_to_decode rows.old.configuration) steps.old steps.new }
-    ensures locator { is_located ≡ true
-        → rows.new.memory.entries.items ≡ rows.old.memory.entries.items }
+    ensures located { AreLocated rows.old.configuration.frame (given_marks rows.old.memory.marks)
+        located.new rows.new.memory.entries.items }
 {
-    let tally = rows.tally(is_located);
+    let tally = rows.tally(*located);
     let memory = &mut rows.memory;
     let chunks = memory.chunks.as_mut_slice();
     let entries = memory.entries.as_mut_slice();
-    let agrees = restore(engine, steps, chunks, &mut memory.marks, entries, tally);
-    let answer = if agrees {
+    let found = restore(engine, steps, chunks, &mut memory.marks, entries, tally);
+    *located = found.located;
+    let answer = if found.agrees {
         Ok(tally.missing)
     } else {
         Err(Error::InconsistentShards {
@@ -81,9 +91,9 @@ pub(crate) fn decode_rows<E: Engine>(
     answer
 }
 
-// Restores the missing originals in their rows if some message agrees with all given shards, and returns whether one
-// does. If all originals and no recovery shards are given, there is nothing to restore. Afterwards the marks are those
-// of restored originals. `entries` is memory for the locator, or the locator.
+// Restores the missing originals in their rows if some message agrees with all given shards. If all originals and no
+// recovery shards are given, there is nothing to restore. Afterwards the marks are those of restored originals.
+// `entries` is memory for the locator, or the locator.
 #[tactic(auto, unfolding(crate::specs::values::ChunkCounts::chunk_count))]
 fn restore<E: Engine>(
     engine: &E,
@@ -92,35 +102,39 @@ fn restore<E: Engine>(
     marks: &mut Marks,
     entries: &mut [GfElement],
     tally: Tally,
-) -> bool
+) -> Found
     requires whole { chunk_count
         (rows_to_decode tally.configuration) tally.configuration.shard_bytes ≤ length chunks.old }
     requires facts { CanBeRestored tally marks.old }
     requires entries { length entries.old ≡ rows_to_decode tally.configuration }
-    requires located { tally.is_located ≡ true
-        → IsLocatorOf tally.configuration.frame (given_marks marks.old) entries.old }
+    requires located { AreLocated tally.configuration.frame (given_marks marks.old) tally.located
+        entries.old }
     ensures marks { WantsMissing tally.configuration marks.old marks.new }
-    ensures nothing { tally.missing ≡ 0 → tally.surplus ≡ 0 → result ≡ true }
+    ensures nothing { tally.missing ≡ 0 → tally.surplus ≡ 0 → result.agrees ≡ true }
     ensures restored { 0 < tally.missing + tally.surplus
         → RestoresShards tally.configuration (given_marks marks.old) tally.surplus
-        chunks.old chunks.new result }
+        chunks.old chunks.new result.agrees }
     ensures counts { DecodeCounts (rows_to_decode tally.configuration) steps.old steps.new }
-    ensures locator { tally.is_located ≡ true → entries.new ≡ entries.old }
+    ensures located { AreLocated tally.configuration.frame (given_marks marks.old) result.located
+        entries.new }
 {
     let configuration = tally.configuration;
     if tally.missing == 0 && tally.surplus == 0 {
         marks.want_missing(configuration);
-        return true;
+        return Found {
+            agrees: true,
+            located: tally.located,
+        };
     }
-    let agrees = find_words(engine, steps, chunks, marks, entries, tally);
-    if agrees {
+    let found = find_words(engine, steps, chunks, marks, entries, tally);
+    if found.agrees {
         move_restored_tails(steps, chunks, marks, configuration);
     }
-    agrees
+    found
 }
 
-// Restores the words of the missing originals if some message agrees with all given shards, and returns whether one
-// does. Afterwards the marks are those of restored originals.
+// Restores the words of the missing originals if some message agrees with all given shards. Afterwards the marks are
+// those of restored originals.
 #[tactic(auto, unfolding(crate::specs::values::ChunkCounts::chunk_count))]
 fn find_words<E: Engine>(
     engine: &E,
@@ -129,34 +143,37 @@ fn find_words<E: Engine>(
     marks: &mut Marks,
     entries: &mut [GfElement],
     tally: Tally,
-) -> bool
+) -> Found
     requires whole { chunk_count
         (rows_to_decode tally.configuration) tally.configuration.shard_bytes ≤ length chunks.old }
     requires facts { CanBeRestored tally marks.old }
     requires entries { length entries.old ≡ rows_to_decode tally.configuration }
-    requires located { tally.is_located ≡ true
-        → IsLocatorOf tally.configuration.frame (given_marks marks.old) entries.old }
+    requires located { AreLocated tally.configuration.frame (given_marks marks.old) tally.located
+        entries.old }
     ensures marks { WantsMissing tally.configuration marks.old marks.new }
     ensures words { let n = row_len tally.configuration.shard_bytes in
         FindsWords tally.configuration (given_marks marks.old) tally.surplus
-        (word_in chunks.old n) (word_in chunks.new n) result }
+        (word_in chunks.old n) (word_in chunks.new n) result.agrees }
     ensures counts { CountsUpTo (find_steps tally.configuration) 1048576 65536 steps.old steps.new }
-    ensures locator { tally.is_located ≡ true → entries.new ≡ entries.old }
+    ensures located { AreLocated tally.configuration.frame (given_marks marks.old) result.located
+        entries.new }
 {
-    if let Some(agrees) = find_by_sums(engine, steps, chunks, marks, entries, tally) {
-        return agrees;
+    if let Some(found) = find_by_sums(engine, steps, chunks, marks, entries, tally) {
+        return found;
     }
     let configuration = tally.configuration;
-    make_locator_once(engine, steps, entries, marks.given(), tally);
+    let given = marks.given();
+    let located = Some(given.len());
+    make_locator_once(engine, steps, entries, given, tally);
     let len = row_len(configuration.shard_bytes);
     let mut rows = ShardsRefMut::new(configuration.frame.row_count(), len, chunks);
-    restore_rows(engine, steps, &mut rows, marks, entries, tally)
+    let agrees = restore_rows(engine, steps, &mut rows, marks, entries, tally);
+    Found { agrees, located }
 }
 
 // Restores the words of the missing originals by direct sums over k given shards, if the other given shards agree with
-// these. Returns whether they do. Afterwards the marks are those of restored originals. Returns `None` if the locator
-// for transforms was made already, if `are_sums_used` returns false, or if the engine has no logarithms. Then nothing
-// has changed.
+// these. Afterwards the marks are those of restored originals. Returns `None` if `are_sums_used` returns false, or if
+// the engine has no logarithms. Then nothing has changed.
 #[tactic(auto, unfolding(crate::specs::values::ChunkCounts::chunk_count))]
 fn find_by_sums<E: Engine>(
     engine: &E,
@@ -165,22 +182,25 @@ fn find_by_sums<E: Engine>(
     marks: &mut Marks,
     entries: &mut [GfElement],
     tally: Tally,
-) -> Option<bool>
+) -> Option<Found>
     requires whole { chunk_count
         (rows_to_decode tally.configuration) tally.configuration.shard_bytes ≤ length chunks.old }
     requires facts { CanBeRestored tally marks.old }
     requires entries { length entries.old ≡ rows_to_decode tally.configuration }
+    requires located { AreLocated tally.configuration.frame (given_marks marks.old) tally.located
+        entries.old }
     ensures none { IfNone result ((chunks.new ≡ chunks.old) × (marks.new ≡ marks.old)
         × (steps.new ≡ steps.old) × (entries.new ≡ entries.old)) }
     ensures marks { IfSome result (λ _. WantsMissing tally.configuration marks.old marks.new) }
     ensures words { let n = row_len tally.configuration.shard_bytes in
-        IfSome result (λ agrees. FindsWords tally.configuration (given_marks marks.old)
-        tally.surplus (word_in chunks.old n) (word_in chunks.new n) agrees) }
+        IfSome result (λ found. FindsWords tally.configuration (given_marks marks.old)
+        tally.surplus (word_in chunks.old n) (word_in chunks.new n) found.agrees) }
     ensures counts { IfSome result (λ _. CountsUpTo (find_steps tally.configuration) 1048576 65536
         steps.old steps.new) }
-    ensures locator { IfSome result (λ _. tally.is_located ≡ false) }
+    ensures located { IfSome result (λ found. AreLocated tally.configuration.frame
+        (given_marks marks.old) found.located entries.new) }
 {
-    if tally.is_located || !are_sums_used(tally) {
+    if !are_sums_used(tally) {
         return None;
     }
     let configuration = tally.configuration;
@@ -194,7 +214,8 @@ fn find_by_sums<E: Engine>(
     let base_rows = &mut base_rows[..configuration.original_count];
     let given = marks.given();
     let marked = &given[..list_base(base_rows, given)];
-    make_locator(engine, steps, entries, marked, configuration.frame);
+    make_locator_once(engine, steps, entries, marked, tally);
+    let located = Some(marked.len());
     let base = SumBase {
         marks: marked,
         rows: base_rows,
@@ -203,7 +224,7 @@ fn find_by_sums<E: Engine>(
     };
     let agrees = sum_rows(engine, steps, chunks, given, &base, configuration);
     marks.want_missing(configuration);
-    Some(agrees)
+    Some(Found { agrees, located })
 }
 
 // Moves the tails of the restored originals, and counts one row step for each of them.

@@ -1,5 +1,5 @@
 //! The locator of the erased rows of a decoder.
-ghost use Rattle.std.specs.Prelude.{◌≡◌, ℕ, ◌<◌, ◌≤◌, true, [], length, slice_index, if◌then◌else◌};
+ghost use Rattle.std.specs.Prelude.{◌≡◌, ℕ, ◌<◌, ◌≤◌, [], length, slice_index, Some, if◌then◌else◌};
 ghost use Rattle.rs_field.specs.code.Frame.{row_count};
 ghost use Rattle.rs_field.specs.rows.MarkedRows.{is_marked};
 ghost use Rattle.rs_field.specs.words.StepBounds.{LocatorCounts};
@@ -39,15 +39,17 @@ pub(crate) fn make_locator_once<E: Engine>(
 )
     requires few { tally.configuration.frame.exponent ≤ 16 }
     requires entries { length entries.old ≡ row_count tally.configuration.frame }
-    requires located { tally.is_located ≡ true
+    requires located { tally.located ≡ Some (length given.now)
         → IsLocatorOf tally.configuration.frame given.now entries.old }
     ensures locator { IsLocatorOf tally.configuration.frame given.now entries.new }
-    ensures kept { tally.is_located ≡ true → entries.new ≡ entries.old }
+    ensures kept { tally.located ≡ Some (length given.now)
+        → (entries.new ≡ entries.old) × (steps.new ≡ steps.old) }
     ensures counts { LocatorCounts steps.old steps.new }
 {
-    if !tally.is_located {
-        make_locator(engine, steps, entries, given, tally.configuration.frame);
+    if tally.located == Some(given.len()) {
+        return;
     }
+    make_locator(engine, steps, entries, given, tally.configuration.frame);
 }
 
 // Sets the entries of the erased rows to 1 and all other entries to 0. A row is erased if it is not known to be zero

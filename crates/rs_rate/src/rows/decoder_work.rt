@@ -426,7 +426,7 @@ impl DecoderRows {
 
     // Counts the missing originals and the surplus shards. `is_located` says whether the entries of the locator were
     // made for these shards.
-    pub(crate) fn tally(&self, is_located: bool) -> Tally
+    pub(crate) fn tally(&self, located: Option<usize>) -> Tally
         requires { self.now.configuration.original_count
             ≤ self.now.originals_given + self.now.recovery_given }
         ensures configuration { result.configuration ≡ self.now.configuration }
@@ -435,14 +435,14 @@ impl DecoderRows {
         ensures surplus { self.now.originals_given + self.now.recovery_given
             ≡ self.now.configuration.original_count + result.surplus }
         ensures facts { CanBeRestored result self.now.memory.marks }
-        ensures located { result.is_located ≡ is_located }
+        ensures located { result.located ≡ located }
     {
         let given = self.originals_given + self.recovery_given;
         Tally {
             configuration: self.configuration,
             missing: self.configuration.original_count - self.originals_given,
             surplus: given - self.configuration.original_count,
-            is_located,
+            located,
         }
     }
 

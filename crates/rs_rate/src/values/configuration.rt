@@ -35,8 +35,8 @@ pub(crate) struct Tally {
     pub(crate) missing: usize,
     // The number of shards that were added beyond the number of originals.
     pub(crate) surplus: usize,
-    // True if the entries of the locator were made for these shards.
-    pub(crate) is_located: bool,
+    // If the entries of the locator were made, the number of first marks of given shards that they were made for.
+    pub(crate) located: Option<usize>,
 }
 
 impl Configuration {

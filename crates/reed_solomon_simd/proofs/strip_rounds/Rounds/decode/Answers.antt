@@ -7,7 +7,6 @@ use Rattle.reed_solomon_simd.proofs.RoundLocators.{enough-round, locator-for, lo
 use Rattle.reed_solomon_simd.proofs.StripDecodeLemmas.{pieces-added, round-refused, round-restored}
 use Rattle.reed_solomon_simd.proofs.strip_rounds.Rounds.decode.Given.{Over}
 use Rattle.reed_solomon_simd.proofs.strip_rounds.Rounds.decode.Goals.{After-narrow, After-add_recovery_pieces}
-use Rattle.reed_solomon_simd.proofs.strip_rounds.Rounds.decode.Goals.{After-locate_once}
 use Rattle.reed_solomon_simd.proofs.strip_rounds.Rounds.decode.Goals as goal
 
 -- The decoder is set up for the strip, without shards.
@@ -22,16 +21,6 @@ added : (g : Over) (c : After-add_recovery_pieces g)
     ≡ state_of_pieces c.args.start c.args.end (g.P.Pieces.received c.args.received.now)
 added g c =
     pieces-added c.args.start c.args.end (g.P.Pieces.received c.args.received.now)
-    (c.narrow.ensures.fresh _ c.requires.ready.fresh)
-    c.add_original_pieces.ensures.added c.add_recovery_pieces.ensures.added
-
--- It has this state, too, when it has the locator.
-located : (g : Over) (c : After-locate_once g)
-    → decoder_state default_rate c.locate_once.new.self.decoder.rows
-    ≡ state_of_pieces c.args.start c.args.end (g.P.Pieces.received c.args.received.now)
-located g c =
-    c.locate_once.ensures.state
-    ∙ pieces-added c.args.start c.args.end (g.P.Pieces.received c.args.received.now)
     (c.narrow.ensures.fresh _ c.requires.ready.fresh)
     c.add_original_pieces.ensures.added c.add_recovery_pieces.ensures.added
 
@@ -57,48 +46,42 @@ add_recovery_pieces-requires-clause-configured g c =
     ∙ ap (λ (s : DecoderState). s.configuration)
     (narrowed g (goal.at.add_recovery_pieces-requires-clause-configured g c).After-narrow)
 
-pub locate_once-requires-clause-enough : goal.locate_once-requires-clause-enough
-locate_once-requires-clause-enough g c =
-    let decoder = c.add_recovery_pieces.new.decoder in
-    enough-round decoder.rows decoder.set_up (g.P.Pieces.received c.args.received.now) c.args.start c.args.end
-    (added g (goal.at.locate_once-requires-clause-enough g c).After-add_recovery_pieces) c.requires.enough
-
-pub locate_once-requires-clause-located : goal.locate_once-requires-clause-located
-locate_once-requires-clause-located g c = λ is.
-    let decoder = c.add_recovery_pieces.new.decoder in
-    locator-of decoder.rows decoder.set_up (g.P.Pieces.received c.args.received.now) c.args.start c.args.end
-    (added g (goal.at.locate_once-requires-clause-located g c).After-add_recovery_pieces) c.requires.enough
-    c.args.self.now.decoder.rows (c.requires.ready.located is)
-    (ap (λ e. e.items) (c.add_recovery_pieces.ensures.locator ∙ c.add_original_pieces.ensures.locator)
-    ∙ c.narrow.ensures.locator)
-
 pub decode-requires-clause-enough : goal.decode-requires-clause-enough
 decode-requires-clause-enough g c =
-    let decoder = c.locate_once.new.self.decoder in
+    let decoder = c.add_recovery_pieces.new.decoder in
     enough-round decoder.rows decoder.set_up (g.P.Pieces.received c.args.received.now) c.args.start c.args.end
-    (located g (goal.at.decode-requires-clause-enough g c).After-locate_once) c.requires.enough
+    (added g (goal.at.decode-requires-clause-enough g c).After-add_recovery_pieces) c.requires.enough
+
+pub decode-requires-clause-located : goal.decode-requires-clause-located
+decode-requires-clause-located g c =
+    let decoder = c.add_recovery_pieces.new.decoder in
+    locator-of decoder.rows decoder.set_up (g.P.Pieces.received c.args.received.now) c.args.start c.args.end
+    (added g (goal.at.decode-requires-clause-located g c).After-add_recovery_pieces) c.requires.enough
+    c.args.self.now.decoder.rows c.args.self.now.located c.requires.ready.located
+    (ap (λ e. e.items) (c.add_recovery_pieces.ensures.locator ∙ c.add_original_pieces.ensures.locator)
+    ∙ c.narrow.ensures.locator)
 
 pub returns-clause-restored : goal.returns-clause-restored
 returns-clause-restored g c =
     round-restored c.args.start c.args.end (g.P.Pieces.received c.args.received.now)
-    (located g (goal.at.returns-clause-restored g c).After-locate_once)
+    (added g (goal.at.returns-clause-restored g c).After-add_recovery_pieces)
     (restored_by_rows c.decode.new.self.rows) c.decode.result c.decode.ensures.answer
 
 pub returns-clause-refused : goal.returns-clause-refused
 returns-clause-refused g c =
     round-refused c.args.start c.args.end (g.P.Pieces.received c.args.received.now)
-    (located g (goal.at.returns-clause-refused g c).After-locate_once)
+    (added g (goal.at.returns-clause-refused g c).After-add_recovery_pieces)
     (restored_by_rows c.decode.new.self.rows) c.decode.result c.decode.ensures.answer
 
 pub returns-clause-ready : goal.returns-clause-ready
 returns-clause-ready g c =
-    let decoder = c.locate_once.new.self.decoder in
-    let is = located g (goal.at.returns-clause-ready g c).After-locate_once in
+    let decoder = c.add_recovery_pieces.new.decoder in
+    let is = added g (goal.at.returns-clause-ready g c).After-add_recovery_pieces in
     record {
       size = c.args.end - c.args.start;
       room = omega arith;
       fresh = c.decode.ensures.state ∙ ap (λ (s : DecoderState). fresh_decoder s.configuration) is;
-      located = λ yes.
+      located = λ n yes.
           locator-for decoder.rows decoder.set_up (g.P.Pieces.received c.args.received.now) c.args.start c.args.end is
-          c.requires.enough c.decode.new.self.rows (c.locate_once.ensures.located yes) (c.decode.ensures.locator yes);
+          c.requires.enough c.decode.new.self.rows n (c.decode.ensures.located n yes);
     }

@@ -15,7 +15,7 @@ use Rattle.std.specs.Vec.{with_items}
 use Rattle.rs_rate.specs.declared.rows.decoder_work.DecoderMemory.{DecoderMemory}
 use Rattle.rs_rate.specs.declared.rows.marks.Marks.{Marks}
 use Rattle.rs_rate.proofs.passes.decoding.decode_rows.Goals as goal
-use Rattle.rs_rate.proofs.passes.decoding.decode_rows.Goals.{then-agrees, else-agrees}
+use Rattle.rs_rate.proofs.passes.decoding.decode_rows.Goals.{then-found, else-found}
 
 -- The memory of a decoder whose chunks and entries were lent and written.
 abbrev written : DecoderMemory → List (List ℕ) → Marks → List ℕ → DecoderMemory
@@ -36,7 +36,7 @@ returns-clause-answer g c = λ rate is.
     let old = c.args.rows.now in
     let own = old.configuration in
     let before = old.memory.chunks.items in
-    let new = c.restore-agrees.new in
+    let new = c.restore-found.new in
     let now = written old.memory new.chunks new.marks new.entries in
     let rows : FilledRows rate c.args.rows.now.configuration = record {
       supported = valid-supported (configuration_at rate own) is.valid;
@@ -48,30 +48,30 @@ returns-clause-answer g c = λ rate is.
       given = old.given;
     } in
     let long : length c.args.rows.now.memory.chunks.items ≡ c.args.rows.now.memory.chunks.len = search rules in
-    let many : length c.restore-agrees.new.chunks ≡ c.args.rows.now.memory.chunks.len = search rules in
-    let same : now.chunks.items ≡ c.restore-agrees.new.chunks =
+    let many : length c.restore-found.new.chunks ≡ c.args.rows.now.memory.chunks.len = search rules in
+    let same : now.chunks.items ≡ c.restore-found.new.chunks =
     written-back new.chunks old.memory.chunks.items old.memory.chunks.len many long in
     let tally = c.tally-tally.ensures in
     let count = rw tally.configuration at c.row_count.ensures in
     let missing : WantsMissing c.args.rows.now.configuration c.args.rows.now.memory.marks
-    c.restore-agrees.new.marks = rw tally.configuration at c.restore-agrees.ensures.marks in
+    c.restore-found.new.marks = rw tally.configuration at c.restore-found.ensures.marks in
     let left : DecodedRows rows = record {
-      marks = restored_marks c.restore-agrees.new.marks;
+      marks = restored_marks c.restore-found.new.marks;
       chunks = now.chunks.items;
       missing = missing.missing;
     } in
-    let over : AnswersOver rows left c.restore-agrees.result =
+    let over : AnswersOver rows left c.restore-found.result.agrees =
     elim (cases_eq (c.tally-tally.result.missing + c.tally-tally.result.surplus) 0) [
       | inl none ↦
-          subst (AnswersOver rows left) (sym (c.restore-agrees.ensures.nothing (omega arith) (omega arith)))
+          subst (AnswersOver rows left) (sym (c.restore-found.ensures.nothing (omega arith) (omega arith)))
           (complete_answers left
           (omega (arith, none, tally.missing), omega (arith, none, tally.missing, tally.surplus)))
       | inr some ↦
           let made = subst
           (λ l. RestoresShards own (given_marks old.memory.marks) c.tally-tally.result.surplus before l
-          c.restore-agrees.result) (sym same)
+          c.restore-found.result.agrees) (sym same)
           (rw (tally.configuration, c.as_mut_slice-chunks.ensures.value) at
-          (c.restore-agrees.ensures.restored (omega arith))) in
+          (c.restore-found.ensures.restored (omega arith))) in
           decode_answers is {left = left} {surplus = c.tally-tally.result.surplus} (record {
             counted = tally.surplus;
             restores = made;
@@ -80,15 +80,15 @@ returns-clause-answer g c = λ rate is.
                 (original_row own.frame i) (omega (arith, inside, count, old.configured.own_rows)));
           })
     ] in
-    answer_by_check rows left c.restore-agrees.result c.if-agrees.answer over
-    (λ yes. elim c.if-agrees.branch [
-      | then-agrees w ↦ (c.tally-tally.result.missing, w.answer-is)
-      | else-agrees w ↦ absurd (true≢false (sym yes ∙ w.if-agrees.false))
+    answer_by_check rows left c.restore-found.result.agrees c.if-found.answer over
+    (λ yes. elim c.if-found.branch [
+      | then-found w ↦ (c.tally-tally.result.missing, w.answer-is)
+      | else-found w ↦ absurd (true≢false (sym yes ∙ w.if-found.false))
     ])
-    (λ no. elim c.if-agrees.branch [
-      | then-agrees w ↦ absurd (true≢false (sym w.if-agrees.true ∙ no))
-      | else-agrees w ↦ w.answer-is
+    (λ no. elim c.if-found.branch [
+      | then-found w ↦ absurd (true≢false (sym w.if-found.true ∙ no))
+      | else-found w ↦ w.answer-is
     ])
 
 pub returns-clause-counted : goal.returns-clause-counted
-returns-clause-counted g c = search (rules, length-restored, then-agrees, sub-zero, else-agrees)
+returns-clause-counted g c = search (rules, length-restored, then-found, sub-zero, else-found)

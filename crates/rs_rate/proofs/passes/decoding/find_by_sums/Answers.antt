@@ -30,7 +30,7 @@ are_sums_used-requires-clause-few_surplus g c =
 
 pub invariant_of-base : goal.invariant_of-base
 invariant_of-base g c =
-    let is = c.make_locator.ensures.locator in
+    let is = c.make_locator_once.ensures.locator in
     let logs : length c.logarithms.new.logs ≡ rows_to_decode c.args.tally.configuration = search rules in
     record {
       listed = subst (λ (n : ℕ). ListsMarked (take c.list_base.result c.given-given.result.now) n c.list_base.new.rows)
@@ -54,14 +54,14 @@ returns-clause-words g c =
     let many : length c.list_base.new.rows ≡ c.args.tally.configuration.original_count = search rules in
     inr (
       base,
-      c.make_locator.new.entries,
+      c.make_locator_once.new.entries,
       record {
         given = λ p is.
             ap (λ (l : List Bool). is_marked l p) (sym given)
             ∙ marked-first c.given-given.result.now c.list_base.result p is;
         counted = ap (λ n. how_many n (is_marked base)) (sym rows) ∙ sym c.list_base.ensures.listed.count ∙ many;
       },
-      c.make_locator.ensures.locator,
+      c.make_locator_once.ensures.locator,
       rw (sym given) c.sum_rows-agrees.ensures.words,
     )
 
@@ -77,14 +77,14 @@ returns-clause-counts g c =
     let missing = ap (λ l. how_many own.original_count (λ i. not (is_marked l (original_row own.frame i)))) given
     ∙ facts.missing in
     let sums : CountsUpTo (sum_steps c.args.tally.configuration (c.args.tally.missing + c.args.tally.surplus)) 0 0
-    c.make_locator.new.steps c.sum_rows-agrees.new.steps =
-    subst (λ (n : ℕ). CountsUpTo ((n + tally.surplus) * (1 + 3 * own.original_count)) 0 0 c.make_locator.new.steps
+    c.make_locator_once.new.steps c.sum_rows-agrees.new.steps =
+    subst (λ (n : ℕ). CountsUpTo ((n + tally.surplus) * (1 + 3 * own.original_count)) 0 0 c.make_locator_once.new.steps
     c.sum_rows-agrees.new.steps) missing
     (subst (λ (n : ℕ). CountsUpTo ((how_many own.original_count
     (λ i. not (is_marked c.given-given.result.now (original_row own.frame i))) + tally.surplus) * (1 + 3 * n)) 0 0
-    c.make_locator.new.steps c.sum_rows-agrees.new.steps) many
+    c.make_locator_once.new.steps c.sum_rows-agrees.new.steps) many
     (c.sum_rows-agrees.ensures.counts c.args.tally.surplus total)) in
     both_counted (sum_steps own (tally.missing + tally.surplus)) (find_steps own) c.args.steps.now
-    c.make_locator.new.steps c.sum_rows-agrees.new.steps
+    c.make_locator_once.new.steps c.sum_rows-agrees.new.steps
     (c.are_sums_used.ensures.0 c.if-not-are_sums_used.false).2
-    c.make_locator.ensures.counts sums
+    c.make_locator_once.ensures.counts sums

@@ -10,6 +10,6 @@ returns-clause-words g c =
     let n : ℕ = row_len s.shard_bytes in
     let len : c.new-rows.result.shard_len_64 ≡ n = c.new-rows.ensures.len_64 ∙ c.row_len-len.ensures in
     found_read s (given_marks c.args.marks.now) c.args.tally.surplus n c.args.chunks.now _ c.new-rows.result
-    c.restore_rows.new.rows c.restore_rows.result len (c.restore_rows.ensures.extent.len_64 ∙ len)
+    c.restore_rows-agrees.new.rows c.restore_rows-agrees.result len (c.restore_rows-agrees.ensures.extent.len_64 ∙ len)
     (search rules) (search rules)
     (inl (c.make_locator_once.new.entries, search rules, search rules))

@@ -10,44 +10,44 @@ use Rattle.rs_rate.specs.passes.Decoding.{find_steps}
 use Rattle.rs_rate.proofs.rows_lemmas.ShardRowsLemmas.{column-put}
 use Rattle.rs_rate.proofs.passes.decoding.restore.Goals as goal
 
-pub returns-then-agrees-clause-restored : goal.returns-then-agrees-clause-restored
-returns-then-agrees-clause-restored g c some =
+pub returns-then-found-clause-restored : goal.returns-then-found-clause-restored
+returns-then-found-clause-restored g c some =
     let s = c.args.tally.configuration in
     let n : ℕ = row_len s.shard_bytes in
-    let mid = c.find_words-agrees.new.chunks in
-    let missing = c.find_words-agrees.ensures.marks in
+    let mid = c.find_words-found.new.chunks in
+    let missing = c.find_words-found.ensures.marks in
     record {
       words = word_in mid n;
-      found = c.find_words-agrees.ensures.words;
+      found = c.find_words-found.ensures.words;
       shards = λ _ i j inside hj none.
           ap (column j) (c.move_restored_tails.ensures.moved i inside (missing.missing i inside ∙ ap not none))
           ∙ column-put mid s.shard_bytes
           (s.frame.originals_from + i) j c.requires.facts.configured.even hj;
     }
 
-pub returns-else-agrees-clause-restored : goal.returns-else-agrees-clause-restored
-returns-else-agrees-clause-restored g c some =
+pub returns-else-found-clause-restored : goal.returns-else-found-clause-restored
+returns-else-found-clause-restored g c some =
     let s = c.args.tally.configuration in
     let n : ℕ = row_len s.shard_bytes in
-    let mid = c.find_words-agrees.new.chunks in
+    let mid = c.find_words-found.new.chunks in
     record {
       words = word_in mid n;
-      found = c.find_words-agrees.ensures.words;
-      shards = λ agreed. absurd (true≢false (sym agreed ∙ c.if-agrees.false));
+      found = c.find_words-found.ensures.words;
+      shards = λ agreed. absurd (true≢false (sym agreed ∙ c.if-found.false));
     }
 
-pub returns-then-agrees-clause-counts : goal.returns-then-agrees-clause-counts
-returns-then-agrees-clause-counts g c =
+pub returns-then-found-clause-counts : goal.returns-then-found-clause-counts
+returns-then-found-clause-counts g c =
     let s = c.args.tally.configuration in
     counts_decode (rows_to_decode s) (find_steps s) s.original_count c.args.steps.now
-    c.find_words-agrees.new.steps c.move_restored_tails.new.steps
+    c.find_words-found.new.steps c.move_restored_tails.new.steps
     (omega (arith, c.requires.facts.configured.own_rows))
-    c.find_words-agrees.ensures.counts c.move_restored_tails.ensures.counts
+    c.find_words-found.ensures.counts c.move_restored_tails.ensures.counts
 
-pub returns-else-agrees-clause-counts : goal.returns-else-agrees-clause-counts
-returns-else-agrees-clause-counts g c =
+pub returns-else-found-clause-counts : goal.returns-else-found-clause-counts
+returns-else-found-clause-counts g c =
     let s = c.args.tally.configuration in
     counts_decode (rows_to_decode s) (find_steps s) 0 c.args.steps.now
-    c.find_words-agrees.new.steps c.find_words-agrees.new.steps
+    c.find_words-found.new.steps c.find_words-found.new.steps
     (omega (arith, c.requires.facts.configured.own_rows))
-    c.find_words-agrees.ensures.counts (counts_none)
+    c.find_words-found.ensures.counts (counts_none)
