@@ -159,35 +159,9 @@ pub mod engine {
     /// };
     /// ```
     pub use rs_engines::engine_default::UnknownEngine;
-    /// The engine without vectors: it looks up products by nibbles.
-    ///
-    /// # Examples
-    ///
-    /// The product of 4 and 2 is 11:
-    ///
-    /// ```
-    /// let engine = NoSimd::new(&tables);
-    /// let log_2 = get_exp_log(&tables).log[2];
-    /// let mut row = [[0; 64]];
-    /// row[0][0] = 4;
-    /// engine.mul(&mut Steps::new(), &mut row, log_2);
-    /// assert_eq!(rt; row[0][0], 11);
-    /// ```
+    /// The engine without vectors: it looks up products by nibbles. It is used like [`Naive`], which has an example.
     pub use rs_engines::engine_nosimd::NoSimd;
-    /// The engines with vectors of 32 bytes and of 16 bytes.
-    ///
-    /// # Examples
-    ///
-    /// The product of 4 and 2 is 11:
-    ///
-    /// ```
-    /// let engine = Ssse3::new(&tables);
-    /// let log_2 = get_exp_log(&tables).log[2];
-    /// let mut row = [[0; 64]];
-    /// row[0][0] = 4;
-    /// engine.mul(&mut Steps::new(), &mut row, log_2);
-    /// assert_eq!(rt; row[0][0], 11);
-    /// ```
+    /// The engines with vectors of 32 bytes and of 16 bytes. They are used like [`Naive`], which has an example.
     pub use rs_engines::engine_shuffle::{Avx2, Ssse3};
     /// The constants of the field.
     ///
@@ -245,20 +219,7 @@ pub mod engine {
     /// ```
     pub use rs_field::engine::{ShardsRefMut, Steps};
 
-    /// The tables, which are made once and lent to engines.
-    ///
-    /// # Examples
-    ///
-    /// One recovery shard of three originals is their XOR:
-    ///
-    /// ```
-    /// let tables = Tables::new(alloc)?;
-    /// let engine = DefaultEngine::new(&tables, EngineKind::Ssse3);
-    /// let original: [&[u8]; 3] = [&[1, 2], &[4, 8], &[16, 32]];
-    /// let recovery = encode(alloc, 3, 1, original.into_iter(), engine)?;
-    /// assert_eq!(rt; recovery.len(), 1);
-    /// assert_eq!(rt; recovery[0].as_slice(), [21, 42].as_slice());
-    /// ```
+    /// The tables, which are made once and lent to engines. The example of the module [`engine`](super) makes them.
     pub mod tables {
         /// All tables; the powers and logarithms, the product of two words with them, and the factors of butterflies.
         ///
@@ -282,20 +243,8 @@ pub mod engine {
         pub use rs_field::engine::tables::{
             Exp, ExpLog, Log, Skew, Tables, get_exp_log, get_skew, mul,
         };
-        /// The transforms of the logarithms, for locators.
-        ///
-        /// # Examples
-        ///
-        /// The locator of point 0 at a point x other than 0 is the logarithm of x:
-        ///
-        /// ```
-        /// // The logarithms of 2 and 3 are 21845 and 43690.
-        /// let mut erasures = [0; GF_ORDER];
-        /// erasures[0] = 1;
-        /// let log_walsh = get_log_walsh(&tables);
-        /// eval_poly(&mut Steps::new(), &mut erasures, GF_ORDER, log_walsh);
-        /// assert_eq!(rt; [erasures[2], erasures[3]], [21845, 43690]);
-        /// ```
+        /// The transforms of the logarithms, for locators. The example of [`eval_poly`](super::utils::eval_poly) uses
+        /// them.
         pub use rs_field::engine::tables::{LogWalsh, get_log_walsh, get_log_walsh_below};
         /// The products by nibbles, as words and as bytes.
         ///

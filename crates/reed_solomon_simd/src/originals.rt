@@ -14,10 +14,6 @@ pub trait Originals {
     /// The bytes of each original.
     ghost shards: { Self → List Shard };
 
-    /// Returns the number of originals.
-    fn count(&self) -> usize
-        ensures { result ≡ length (shards self.now) };
-
     /// Returns the bytes of an original from byte `start` up to, but not including, byte `end`.
     fn piece(&self, index: usize, start: usize, end: usize) -> &[u8]
         requires index { index < length (shards self.now) }
@@ -35,10 +31,6 @@ pub struct LentShards<'a, 'b> {
 
 impl<'a, 'b> Originals for LentShards<'a, 'b> {
     ghost shards = { λ x. shards_of x.shards.now };
-
-    fn count(&self) -> usize {
-        self.shards.len()
-    }
 
     fn piece(&self, index: usize, start: usize, end: usize) -> &[u8] {
         piece_of(self.shards[index], start, end)

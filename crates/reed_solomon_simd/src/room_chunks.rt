@@ -40,7 +40,6 @@ impl<'a, 'b> ChangeRows for RoomChunks<'a, 'b> {
     }
 }
 
-// Returns chunk `k` of a room, which does not change.
 #[inline(always)]
 fn chunk_of_room(room: &mut [u8], k: usize) -> [u8; 64]
     requires { k * 64 + 64 ≤ length room.old }

@@ -90,7 +90,6 @@ impl RsFault {
     ghost use Rattle.rs_ffi.specs.Faults.{fault_of, kind_of, numbers, numbers_of};
     ghost use Rattle.rs_ffi.specs.Texts.{shard_refusal_with, refusal_with, wanted_fault_with, fault_with};
 
-    // Returns a fault with this number and these three values.
     fn new(number: u32, first: usize, second: usize, third: usize) -> RsFault
         ensures { result ≡ numbers number first second third }
     {
@@ -134,7 +133,6 @@ impl RsFault {
         }
     }
 
-    // Returns the number of the kind of a shard, and its index.
     fn name_of(shard: ShardIndex) -> (usize, usize)
         ensures { (result.0 ≡ kind_of shard) × (result.1 ≡ index_of shard) }
     {

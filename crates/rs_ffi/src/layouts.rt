@@ -21,10 +21,6 @@ pub struct BufferShards<'a> {
 impl<'a> Originals for BufferShards<'a> {
     ghost shards = { λ x. shards_in_buffer x.count x.size x.bytes.now };
 
-    fn count(&self) -> usize {
-        self.count
-    }
-
     fn piece(&self, index: usize, start: usize, end: usize) -> &[u8] {
         let at = index * self.size;
         piece_of(&self.bytes[at..at + self.size], start, end)

@@ -16,7 +16,7 @@ use std::alloc::Global;
 ///
 /// # Errors
 ///
-/// Those of [`received_in_slices`](reed_solomon_simd::receiving::received_in_slices).
+/// Those of [`received_of_size`].
 pub fn received_in_arrays<'a>(
     alloc: Global,
     counts: DefaultRateCounts,

@@ -6,7 +6,7 @@ use super::shards::{drawn, from_index};
 use super::updating::{AddCalls, Additions, lent};
 use reed_solomon_simd::engine::tables::Tables;
 use reed_solomon_simd::engine::{DefaultEngine, EngineKind};
-use reed_solomon_simd::{decode_into, encode_slice};
+use reed_solomon_simd::{ShardIndex, decode_into, encode_slice, reconstruct_into};
 use std::alloc::Global;
 use std::cell::Cell;
 use std::test::Fail;
@@ -130,6 +130,43 @@ fn a_decode_computes_one_locator(rt: HostRuntime) -> Result<(), Fail> {
         locators: 1,
     };
     assert_eq!(rt; by_syndromes, wanted);
+    Ok(())
+}
+
+// Loses original 0 of a message of eight originals and eight recovery shards, of which the first one is given, and
+// returns how often a rebuild of all lost shards calls its engine.
+fn calls_of_rebuild(alloc: Global, tables: &Tables, shard_bytes: usize) -> Result<AddCalls, Fail> {
+    let coding = DefaultEngine::new(tables, EngineKind::NoSimd);
+    let message = drawn(alloc, 8, shard_bytes)?;
+    let recovery = encode_slice(alloc, 8, 8, &message, coding)?;
+    let original = from_index(alloc, &message, 1)?;
+    let mut received: Vec<(usize, &[u8])> = Vec::new(alloc);
+    received.push((0, recovery[0].as_slice()))?;
+    let mut wanted = Vec::new(alloc);
+    wanted.push(ShardIndex::Original(0))?;
+    for index in 1..8 {
+        wanted.push(ShardIndex::Recovery(index))?;
+    }
+    let room = vec![in alloc; 0; shard_bytes]?;
+    let mut made = vec![in alloc; room; 8]?;
+    let mut rooms = lent(alloc, &mut made)?;
+    let calls = Cell::new(AddCalls::default());
+    let engine = Additions::new(tables, &calls);
+    reconstruct_into(
+        alloc, 8, 8, &original, &received, &wanted, &mut rooms, engine,
+    )?;
+    Ok(calls.get())
+}
+
+// Eight wanted shards are not made by sums: the lost original of each strip is a sum, and the strip is encoded then. All
+// strips have one locator.
+#[test]
+fn a_rebuild_computes_one_locator(rt: HostRuntime) -> Result<(), Fail> {
+    let tables = Tables::new(rt.alloc())?;
+    for (size, strips) in [(64, 1), (4096, 2), (6208, 4)] {
+        let calls = calls_of_rebuild(rt.alloc(), &tables, size)?;
+        assert_eq!(rt; (size, calls.sums, calls.locators), (size, strips, 1));
+    }
     Ok(())
 }
 

@@ -214,7 +214,9 @@ fn views(alloc: Global, shards: &[Vec<u8>]) -> Result<Vec<&[u8]>, Error> {
     Ok(views)
 }
 
-// At the high rate, each block of two or four originals is read where it is in each strip, if no strip has a tail.
+// At the high rate, each block of two or four originals is read where it is in each strip, if no strip has a tail. Of a
+// larger block, each group of four originals is read, if a shard has at least 256 bytes. A group after the last original
+// is read as zeros.
 #[test]
 fn an_encode_reads_originals_where_they_are(rt: HostRuntime) {
     let tables = Tables::new(rt.alloc()).expect(&rt, "tables");
@@ -231,6 +233,15 @@ fn an_encode_reads_originals_where_they_are(rt: HostRuntime) {
         (10, 4, 62, 0),
         (4, 3, 64, 0),
         (20, 8, 64, 0),
+        (20, 8, 192, 0),
+        (20, 8, 256, 6),
+        (20, 8, 258, 0),
+        (20, 8, 8192, 12),
+        (5, 8, 256, 2),
+        (8, 8, 256, 2),
+        (9, 8, 4160, 8),
+        (33, 16, 256, 12),
+        (16, 16, 320, 4),
         (2, 10, 64, 0),
     ] {
         let calls = Cell::new(AddCalls::default());

@@ -60,7 +60,6 @@ pub struct BaseSums<'a, 'b, P: BasePieces> {
 }
 
 impl<'a, 'b, P: BasePieces> BaseSums<'a, 'b, P> {
-    // Returns the piece of the entry `index` of the base.
     fn piece(&self, index: usize) -> &[u8]
         requires { index < length self.now.base.now.rows.now }
         ensures length { length result.now ≡ self.now.piece_len }
