@@ -76,33 +76,34 @@ fn a_sum_calls_its_engine_so_often(rt: HostRuntime) -> Result<(), Fail> {
 // In each strip, one call makes up to four sums, and the next call makes the next ones. The tails are added to one sum
 // after the other. Eight and nine lost originals of 60 are sums of as many syndromes, in strips of 2048 bytes. Of 100
 // originals and 30 recovery shards, seven lost originals are direct sums, 8 to 16 are sums of syndromes, and 17 are
-// found by transforms.
+// found by transforms. For syndromes, the received originals are encoded. If no strip has a tail, the four blocks of 16
+// are read where they are, the first one by four calls and each other one by five.
 #[test]
 fn up_to_four_sums_call_their_engine_once(rt: HostRuntime) -> Result<(), Fail> {
     let tables = Tables::new(rt.alloc())?;
-    for (counts, size, sums, one) in [
-        ((10, 4, 2), 64, 1, 0),
-        ((10, 4, 2), 66, 1, 20),
-        ((10, 4, 2), 4096, 1, 0),
-        ((10, 4, 2), 8192, 2, 0),
-        ((10, 4, 3), 64, 1, 0),
-        ((10, 4, 4), 64, 1, 0),
-        ((10, 5, 5), 64, 2, 0),
-        ((10, 5, 5), 66, 2, 50),
-        ((60, 12, 8), 2048, 2, 0),
-        ((60, 12, 8), 4096, 4, 0),
-        ((60, 12, 9), 2048, 3, 0),
-        ((100, 30, 7), 66, 2, 700),
-        ((100, 30, 8), 66, 2, 64),
-        ((100, 30, 16), 66, 4, 256),
-        ((100, 30, 17), 66, 0, 0),
+    for (counts, size, sums, one, read) in [
+        ((10, 4, 2), 64, 1, 0, 0),
+        ((10, 4, 2), 66, 1, 20, 0),
+        ((10, 4, 2), 4096, 1, 0, 0),
+        ((10, 4, 2), 8192, 2, 0, 0),
+        ((10, 4, 3), 64, 1, 0, 0),
+        ((10, 4, 4), 64, 1, 0, 0),
+        ((10, 5, 5), 64, 2, 0, 0),
+        ((10, 5, 5), 66, 2, 50, 0),
+        ((60, 12, 8), 2048, 2, 0, 19),
+        ((60, 12, 8), 4096, 4, 0, 38),
+        ((60, 12, 9), 2048, 3, 0, 19),
+        ((100, 30, 7), 66, 2, 700, 0),
+        ((100, 30, 8), 66, 2, 64, 0),
+        ((100, 30, 16), 66, 4, 256, 0),
+        ((100, 30, 17), 66, 0, 0, 0),
     ] {
         let calls = calls_of_decode(rt.alloc(), &tables, counts, size)?;
         let wanted = AddCalls {
             one,
             sums,
             in_place: 0,
-            read: 0,
+            read,
             locators: 1,
         };
         assert_eq!(rt; (counts, size, calls), (counts, size, wanted));
