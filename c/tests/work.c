@@ -151,12 +151,17 @@ static int has_rows(const struct message *of, int call) {
     return requests_watched > 0;
 }
 
-/* How many rows an encode needs, if it has rows for one block only: a block of two or four rows, and further originals
-   that are read where they are. The build for x86-64 reads no originals. For all others, 0 is returned. */
-static size_t rows_of_a_block(size_t k, size_t r, size_t size) {
-    size_t block = 1;
+/* How many rows an encode needs if it reads originals where they are: those of one block, or of two if a further block
+   has more than four rows. Blocks have as many rows as there are recovery shards, rounded up to a power of two. At the
+   low rate, with a tail, for few bytes in long blocks, and in the build for x86-64, an encode reads no originals, and 0
+   is returned. */
+static size_t rows_to_read(size_t k, size_t r, size_t size) {
+    size_t block = 1, others = 1;
     while (block < r) block *= 2;
-    return k > block && (block == 2 || block == 4) && size % 64 == 0 && strcmp(rs_build_name(), "x86-64") ? block : 0;
+    while (others < k) others *= 2;
+    int is_high = block < others || (block == others && k <= r), is_long = block <= 4 || size >= 256;
+    if (block == 1 || !is_high || !is_long || size % 64 || !strcmp(rs_build_name(), "x86-64")) return 0;
+    return block > 4 && k > block ? 2 * block : block;
 }
 
 /* Counts and a size. rs_work_bytes is what the call needs that needs most. */
@@ -166,9 +171,9 @@ static void shape(size_t k, size_t r, size_t size) {
     for (int call = 0; call < CALLS; call++) {
         size_t restored = has_surplus(call) ? lost(&m, call) : 0, enough = rs_work_bytes(k, r, size, restored);
         size_t least_number = needed(&m, call, enough), offsets = k + r < 40 && size < 200 ? 64 : 3;
-        size_t rows = rows_of_a_block(k, r, size);
+        size_t rows = rows_to_read(k, r, size);
         if (call <= ENCODE_SHARDS && rows && least_number != 63 + rows * (size < 4096 ? size : 4096))
-            wrong("an encode does not need the rows of a block");
+            wrong("an encode needs other rows than those of one or two blocks");
         if (least_number > most) most = least_number;
         if (call == DECODE_SHARDS && most != enough && has_rows(&m, call))
             wrong("rs_work_bytes is larger than what calls need");
