@@ -1,5 +1,5 @@
 """Tests of files that `rs_files` has not finished when it is killed, of folders that are synced, of two runs at once, of old volumes that are
-damaged everywhere, of disks that are full, and of memory for descriptions."""
+damaged everywhere, of disks that are full, of memory for descriptions, and of the time of a check."""
 import hashlib
 import json
 import os
@@ -319,6 +319,29 @@ def bounded():
                 wrong(f"verify {more} --json of many files")
 
 
+def seconds(*words):
+    """Runs the program, which must succeed, and returns how long it was at work."""
+    with subprocess.Popen([PROGRAM, *words], stdout=subprocess.DEVNULL, stderr=subprocess.DEVNULL) as running:
+        status, used = os.wait4(running.pid, 0)[1:]
+        running.returncode = os.waitstatus_to_exitcode(status)
+    if running.returncode:
+        wrong(f"{words[0]} of many files ends with status {running.returncode}")
+    return used.ru_utime + used.ru_stime
+
+
+def linear():
+    """A check of four times as many files takes about four times as long, and not sixteen times."""
+    took = []
+    with Folder() as at:
+        for count in (5_000, 20_000):
+            for number in range(count):
+                write(at(str(count), str(number % 100), str(number)), b"%d" % number)
+            run("create", at(str(count)), "-q", "-r", "1")
+            took.append(min(seconds("verify", at(f"{count}.rsv")) for _ in range(3)))
+    if took[1] > 8 * took[0]:
+        wrong(f"verify of 5000 and of 20000 files takes {took[0]:.2f} s and {took[1]:.2f} s")
+
+
 def known_files():
     """`update` and `create --force` read a file that has not changed twice, and not three times: once to compare it with the old volume, and
     once for its blocks. The new volume is the same as without the old one."""
@@ -343,4 +366,4 @@ def known_files():
                         wrong(f"{words[0]} that reads {last} bytes of {name} gives another volume")
 
 
-TESTS = (killed_twice, removed_in_order, mended_volume, leftovers, two_runs, folders_synced, damaged_everywhere, no_room, bounded, known_files)
+TESTS = (killed_twice, removed_in_order, mended_volume, leftovers, two_runs, folders_synced, damaged_everywhere, no_room, bounded, linear, known_files)
