@@ -1,7 +1,8 @@
 /* Times the calls from C of two states of the library in turn, in one thread of one process: an encode, a decode of one
    original and of as many as possible, a verification with all shards, and an update of one original. The arguments are
    the shared libraries of the two states. A row has the call, the counts, the size, the build, the medians in
-   nanoseconds, the median of the ratios of the turns, their quartiles, and the number of turns. bench/gains runs it. */
+   nanoseconds, the median of the ratios of the turns, their quartiles, and the number of turns. bench/gains runs it several
+   times, because the place of its memory can make all turns of a process slower. */
 #define _GNU_SOURCE
 #include "reed_solomon_simd.h"
 
@@ -12,12 +13,12 @@
 #include <string.h>
 #include <time.h>
 
-enum { TURNS = 25 };
+enum { TURNS = 9 };
 static const size_t counts[][2] = {{4, 2}, {10, 4}, {20, 8}, {32, 32}, {100, 30}, {128, 128}, {1000, 200}};
 static const size_t sizes[] = {64, 1024, 4096, 65536, 1 << 20};
 
 /* The most seconds for a row. A slow row has fewer turns. */
-static const double most = 15;
+static const double most = 5;
 
 /* A state of the library, and its tables. */
 struct state {
