@@ -274,4 +274,9 @@ impl<'a, M: StripMessage> ReadRows for BlockRows<'a, M> {
     fn row(&self, index: usize) -> &[[u8; 64]] {
         self.message.row(self.start + index)
     }
+
+    fn used(&self) -> usize {
+        let left = self.message.count.saturating_sub(self.start);
+        left.min(self.message.block)
+    }
 }
