@@ -42,7 +42,8 @@ pub fn ifft_of_many<E: Engine, R: ReadRows>(
 /// Adds the backward transform of at least eight rows at `skew_delta` to the rows that lie end to end in `x`. `spare` has
 /// room for as many rows, and holds anything afterwards.
 ///
-/// Up to four groups are added by their last transform. More groups are transformed in place before they are added.
+/// With two or four groups, the last transform adds its result to `x`. With more, the whole transform is made in `spare`
+/// and then added.
 pub fn add_ifft_of_many<E: Engine, R: ReadRows>(
     engine: &E,
     steps: &mut Steps,
