@@ -77,8 +77,8 @@ fn a_sum_calls_its_engine_so_often(rt: HostRuntime) -> Result<(), Fail> {
 // after the other. Eight and nine lost originals of 60 are sums of as many syndromes, in strips of 2048 bytes. Of 100
 // originals and 30 recovery shards, seven lost originals are direct sums, 8 to 16 are sums of syndromes, and 17 are
 // found by transforms. For syndromes, the received originals are encoded. If no strip has a tail, the four blocks of 16
-// are read where they are. Four calls read the groups of a block, and the last block has three groups. For each block but
-// the first one, one more call adds the groups.
+// are read where they are. Four calls read the groups of a block, and the last block has three groups. For each block
+// but the first one, one more call adds the groups.
 #[test]
 fn up_to_four_sums_call_their_engine_once(rt: HostRuntime) -> Result<(), Fail> {
     let tables = Tables::new(rt.alloc())?;
@@ -160,8 +160,8 @@ fn calls_of_rebuild(alloc: Global, tables: &Tables, shard_bytes: usize) -> Resul
     Ok(calls.get())
 }
 
-// Eight wanted shards are not made by sums: the lost original of each strip is a sum, and the strip is encoded then. All
-// strips have one locator.
+// Eight wanted shards are not made by sums: the lost original of each strip is a sum, and the strip is encoded then.
+// All strips have one locator.
 #[test]
 fn a_rebuild_computes_one_locator(rt: HostRuntime) -> Result<(), Fail> {
     let tables = Tables::new(rt.alloc())?;

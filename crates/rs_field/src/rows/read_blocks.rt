@@ -12,8 +12,8 @@ use super::read_transform::{ifft_of_rows, transform_backward};
 use super::reading::{ReadRows, Writing, write_rows};
 use crate::words::Steps;
 
-/// Writes the backward transform of at least eight rows at `skew_delta` to the rows that lie end to end in `x`, in place
-/// of what these hold.
+/// Writes the backward transform of at least eight rows at `skew_delta` to the rows that lie end to end in `x`, in
+/// place of what these hold.
 pub fn ifft_of_many<E: Engine, R: ReadRows>(
     engine: &E,
     steps: &mut Steps,
@@ -39,11 +39,11 @@ pub fn ifft_of_many<E: Engine, R: ReadRows>(
     transform_backward(engine, steps, x, groups, len, used, skew_delta / 4);
 }
 
-/// Adds the backward transform of at least eight rows at `skew_delta` to the rows that lie end to end in `x`. `spare` has
-/// room for as many rows, and holds anything afterwards.
+/// Adds the backward transform of at least eight rows at `skew_delta` to the rows that lie end to end in `x`. `spare`
+/// has room for as many rows, and holds anything afterwards.
 ///
-/// With two or four groups, the last transform adds its result to `x`. With more, the whole transform is made in `spare`
-/// and then added.
+/// With two or four groups, the last transform adds its result to `x`. With more, the whole transform is made in
+/// `spare` and then added.
 pub fn add_ifft_of_many<E: Engine, R: ReadRows>(
     engine: &E,
     steps: &mut Steps,

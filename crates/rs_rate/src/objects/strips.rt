@@ -67,8 +67,8 @@ impl<C: RateMarker> RateObject<(), C, DecoderRows> {
     /// Restores the originals that were not added, and ends the round. The restored originals are then in the decoder.
     /// Returns their number. At least as many shards as originals were added.
     ///
-    /// `located` says for which marks the decoder has a locator. Pass `None` in the first round. The call sets it: pass it
-    /// unchanged to the next round with shards of the same indexes, which does not compute the locator again.
+    /// `located` says for which marks the decoder has a locator. Pass `None` in the first round. The call sets it: pass
+    /// it unchanged to the next round with shards of the same indexes, which does not compute the locator again.
     ///
     /// # Errors
     ///

@@ -1,5 +1,5 @@
-//! The decoding of a round, for every rate: by direct sums or by transforms, with the locator, the tails and the round's
-//! end.
+//! The decoding of a round, for every rate: by direct sums or by transforms, with the locator, the tails and the
+//! round's end.
 ghost use Rattle.std.specs.Prelude.{◌≡◌, ℕ, ◌+◌, ◌<◌, ◌≤◌};
 ghost use Rattle.std.specs.Prelude.{true, false, length, IfNone, IfOk, IfSome, MatchResult};
 ghost use Rattle.rs_field.specs.words.StepBounds.{CountsUpTo};
@@ -38,8 +38,8 @@ use rs_field::error::Error;
 struct Found {
     // True if some message agrees with all given shards.
     agrees: bool,
-    // `Some(n)` if the entries are the locator for which only rows among the first n marks count as given, and `None` if
-    // no locator was made.
+    // `Some(n)` if the entries are the locator for which only rows among the first n marks count as given, and `None`
+    // if no locator was made.
     located: Option<usize>,
 }
 

@@ -1,6 +1,6 @@
-//! The coding of the high rate over originals that are read where they are. The backward transform of the first block of
-//! originals replaces the rows of one block, and that of each further block is added to them. Blocks of more than four
-//! rows are added from spare rows.
+//! The coding of the high rate over originals that are read where they are. The backward transform of the first block
+//! of originals replaces the rows of one block, and that of each further block is added to them. Blocks of more than
+//! four rows are added from spare rows.
 ghost use Rattle.std.specs.Prelude.{◌≡◌, ℕ, ◌+◌, ◌*◌, ◌%◌, ◌<◌, ◌≤◌, ◌↔◌, All, length, IsTrue};
 ghost use Rattle.rs_field.specs.code.Counts.{high_rate, next_power};
 ghost use Rattle.rs_field.specs.rows.Layout.{row_len};
@@ -22,8 +22,8 @@ use rs_field::engine::{
 // As many zeros as the longest row that is read has.
 static ZEROS: [[u8; 64]; 64] = [[0; 64]; 64];
 
-/// Returns whether [`code_read`] can encode with this configuration: at the high rate, with blocks of more than one row,
-/// and with shards of at most 64 chunks and no tail.
+/// Returns whether [`code_read`] can encode with this configuration: at the high rate, with blocks of more than one
+/// row, and with shards of at most 64 chunks and no tail.
 pub(crate) fn can_read(configuration: Configuration) -> bool
     ensures { IsTrue result ↔ CanRead configuration }
 {
@@ -179,7 +179,8 @@ impl<'a, M: StripMessage> MessageRows<'a, M> {
         }
     }
 
-    // Writes the coefficients of the polynomials whose values are the originals of the first block, and zero after them.
+    // Writes the coefficients of the polynomials whose values are the originals of the first block, and zero after
+    // them.
     fn write_first<E: Engine>(&self, engine: &E, steps: &mut Steps, sums: &mut [[u8; 64]])
         requires room { length sums.old ≡ self.now.block * self.now.len }
         ensures length { length sums.new ≡ length sums.old }

@@ -42,7 +42,8 @@ pub transform_backward-requires-clause-shift : goal.transform_backward-requires-
 transform_backward-requires-clause-shift g c =
     let size = c.count-groups.ensures in
     shift_of_groups (groups_of c.count-groups.result c.requires.many.0 (size ∙ c.requires.many.1)
-    (let points = c.requires.points in omega (arith, size, points))) c.args.skew_delta (rw (sym size) at c.requires.shift)
+    (let points = c.requires.points in omega (arith, size, points))) c.args.skew_delta
+    (rw (sym size) at c.requires.shift)
 
 pub returns-clause-written : goal.returns-clause-written
 returns-clause-written g c k s inside symbols =
@@ -69,4 +70,5 @@ returns-clause-counts g c =
     let size : c.count-groups.result ≡ g.R.ReadRows.row_count c.args.rows.now = c.count-groups.ensures in
     let p = groups_of c.count-groups.result c.requires.many.0 (size ∙ c.requires.many.1)
     (let points = c.requires.points in omega (arith, size, points)) in
-    counts_within (omega (arith, p.steps, p.whole, size, ap transform_steps size)) (counts_then c.ifft_of_groups.ensures.counts c.transform_backward.ensures.counts)
+    counts_within (omega (arith, p.steps, p.whole, size, ap transform_steps size))
+    (counts_then c.ifft_of_groups.ensures.counts c.transform_backward.ensures.counts)
