@@ -35,8 +35,7 @@ pub(crate) struct Tally {
     pub(crate) missing: usize,
     // The number of shards that were added beyond the number of originals.
     pub(crate) surplus: usize,
-    // `Some(n)` if the entries are the locator for which only rows among the first n marks count as given, and `None`
-    // if no locator was made.
+    // If the entries of the locator were made, the number of first marks of given shards that they were made for.
     pub(crate) located: Option<usize>,
 }
 
