@@ -1,16 +1,14 @@
 /* Times the calls from C of two states of the library in turn, in one thread of one process: an encode, a decode of one
    original and of as many as possible, a verification with all shards, and an update of one original. The arguments are
    the shared libraries of the two states. A row has the call, the counts, the size, the build, the medians in
-   nanoseconds, the median of the ratios of the turns, their quartiles, and the number of turns. bench/gains runs it several
-   times, because the place of its memory can make all turns of a process slower. */
+   nanoseconds, the median of the ratios of the turns, their quartiles, and the number of turns. bench/gains runs it
+   several times, because the place of its memory can make all turns of a process slower. */
 #define _GNU_SOURCE
-#include "reed_solomon_simd.h"
+#include "message.h"
 
 #include <alloca.h>
 #include <dlfcn.h>
 #include <stdio.h>
-#include <stdlib.h>
-#include <string.h>
 #include <time.h>
 
 enum { TURNS = 9 };
@@ -30,24 +28,10 @@ struct state {
     struct rs_tables *tables;
 };
 
-/* A message, its recovery shards, and what a call is passed. */
-static struct {
-    size_t k, r, size, lost;
-    uint8_t *originals, *recovery, *changed, *written;
-    struct rs_bytes *from;
-    struct rs_shard *own, *other;
-    struct rs_room *to, *restored;
-} m;
-
-static void check(uint32_t answer) {
-    if (answer) exit(1);
-}
-
 static void encode(const struct state *s) {
     check(s->encode(s->tables, m.k, m.r, m.from, m.k, m.to, m.r, NULL));
 }
 
-/* The first originals are lost, and as many recovery shards are there. */
 static void decode(const struct state *s) {
     check(s->decode(s->tables, m.k, m.r, m.own + m.lost, m.k - m.lost, m.other, m.lost, m.restored, m.lost, NULL));
 }
@@ -60,35 +44,6 @@ static void verify(const struct state *s) {
 static void update(const struct state *s) {
     check(s->update(s->tables, m.k, m.r, 0, m.originals, m.size, m.changed, m.size, m.to, m.r, NULL));
     check(s->update(s->tables, m.k, m.r, 0, m.changed, m.size, m.originals, m.size, m.to, m.r, NULL));
-}
-
-static void *room(size_t size) {
-    void *at = aligned_alloc(64, (size + 63) / 64 * 64);
-    if (!at) exit(1);
-    return memset(at, 1, size);
-}
-
-static void set_up(const struct state *s, size_t k, size_t r, size_t size) {
-    m.k = k, m.r = r, m.size = size;
-    m.originals = room(k * size), m.recovery = room(r * size), m.written = room(k * size), m.changed = room(size);
-    m.from = room(k * sizeof *m.from), m.own = room(k * sizeof *m.own), m.restored = room(k * sizeof *m.restored);
-    m.other = room(r * sizeof *m.other), m.to = room(r * sizeof *m.to);
-    for (size_t i = 0; i < k * size; i++) m.originals[i] = (uint8_t)(rand() >> 8);
-    for (size_t i = 0; i < k; i++) {
-        m.from[i] = (struct rs_bytes){m.originals + i * size, size};
-        m.own[i] = (struct rs_shard){i, m.originals + i * size, size};
-        m.restored[i] = (struct rs_room){m.written + i * size, size};
-    }
-    for (size_t i = 0; i < r; i++) {
-        m.other[i] = (struct rs_shard){i, m.recovery + i * size, size};
-        m.to[i] = (struct rs_room){m.recovery + i * size, size};
-    }
-    encode(s);
-}
-
-static void clean_up(void) {
-    void *rooms[] = {m.originals, m.recovery, m.written, m.changed, m.from, m.own, m.restored, m.other, m.to};
-    for (size_t i = 0; i < sizeof rooms / sizeof *rooms; i++) free(rooms[i]);
 }
 
 static double now(clockid_t clock) {
@@ -107,11 +62,6 @@ static __attribute__((noinline)) double timed(void (*call)(const struct state *)
     for (; ended - began < 4e6; ended = now(CLOCK_THREAD_CPUTIME_ID))
         for (size_t i = 0; i <= calls / 8; i++, calls++) call(s);
     return (ended - began) / (double)calls;
-}
-
-static int compare(const void *one, const void *other) {
-    double a = *(const double *)one, b = *(const double *)other;
-    return (a > b) - (a < b);
 }
 
 /* The value at a quarter of the sorted list. */
@@ -140,7 +90,8 @@ static void compared(const char *name, void (*call)(const struct state *), size_
 }
 
 static void of_message(const struct state states[2], size_t k, size_t r, size_t size) {
-    set_up(&states[0], k, r, size);
+    set_up(k, r, size);
+    encode(&states[0]);
     compared("encode", encode, 1, states);
     m.lost = 1;
     compared("lost1", decode, 1, states);
@@ -172,7 +123,8 @@ static struct state opened(const char *file) {
 int main(int number, char **words) {
     if (number != 3) return 2;
     const struct state states[2] = {opened(words[1]), opened(words[2])};
-    puts("call,originals,recovery,bytes,build,nanoseconds_before,nanoseconds,ratio,lower_quartile,upper_quartile,turns");
+    puts("call,originals,recovery,bytes,build,nanoseconds_before,nanoseconds,ratio,lower_quartile,upper_quartile,"
+         "turns");
     for (size_t i = 0; i < sizeof counts / sizeof *counts; i++)
         for (size_t n = 0; n < sizeof sizes / sizeof *sizes; n++)
             of_message(states, counts[i][0], counts[i][1], sizes[n]);
