@@ -19,8 +19,8 @@ loans_of rooms = map (λ room. (room.ref_ptr, room.ghost_name)) rooms
 abbrev pub rests : ℕ → List (MutBor (List ℕ)) → List (ℕ × Shard)
 rests n rooms = map (λ room. (length room.now, drop (n * 64) room.now)) rooms
 
--- what a change of the first n chunks of rooms keeps: the array and its loan, n, the rooms and their loans, and the rest
--- of each room
+-- what a change of the first n chunks of rooms keeps: the array and its loan, n, the rooms and their loans, and the
+-- rest of each room
 abbrev pub Kept : Type 0
 Kept = ((ℕ × ℕ) × ℕ × ℕ) × List ((ℕ × ℕ) × ℕ) × List (ℕ × Shard)
 

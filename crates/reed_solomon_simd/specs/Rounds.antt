@@ -15,7 +15,8 @@ use Rattle.reed_solomon_simd.specs.declared.strip_rounds.Rounds.{Rounds}
 use Rattle.reed_solomon_simd.specs.Base.{MarksReceived}
 use Rattle.reed_solomon_simd.specs.Making.{strip_configuration}
 
--- rows have the locator for n first marks, in rounds in which the shards with the indexes of the received ones are given
+-- rows have the locator for n first marks, in rounds in which the shards with the indexes of the received ones are
+-- given
 abbrev pub HasLocator : DecoderRows → DecoderState → ℕ → Type 0
 HasLocator rows s n =
     (marks : List Bool) × MarksReceived s marks

@@ -21,7 +21,7 @@ use rs_rate::rate::strips::StripDecoder;
 #[derive(Drop)]
 pub(crate) struct Rounds {
     decoder: StripDecoder,
-    // What the locator in the decoder was made for, or `None` before the first round.
+    // For which marks the decoder has a locator, or `None` if none was made yet.
     located: Option<usize>,
 }
 

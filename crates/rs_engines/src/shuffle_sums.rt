@@ -254,8 +254,8 @@ fn add_row<
 }
 
 // Adds a row to the rows from row `at` up to, but not including, row `next`, times factors of any class. The words of
-// these rows leave the basis `W` before it, and enter it again after it. The function is not inlined: with small factors
-// it is never called, and it would be in the code of each group.
+// these rows leave the basis `W` before it, and enter it again after it. The function is not inlined: with small
+// factors it is never called, and it would be in the code of each group.
 #[inline(never)]
 fn add_large<V: ByteVector, T: ShuffleTables, R: WholeRows, A: AddedRows, W: SumBasis>(
     tables: &T,
@@ -284,8 +284,8 @@ fn add_large<V: ByteVector, T: ShuffleTables, R: WholeRows, A: AddedRows, W: Sum
     W::enter::<V, R>(rows, at, next, len);
 }
 
-// Adds a row to the rows from row `at` up to, but not including, row `next`, times factors of any class, to two of these
-// rows at a time.
+// Adds a row to the rows from row `at` up to, but not including, row `next`, times factors of any class, to two of
+// these rows at a time.
 #[inline(always)]
 fn add_plain<V: ByteVector, T: ShuffleTables, R: WholeRows, A: AddedRows>(
     tables: &T,
@@ -366,9 +366,9 @@ fn add_to_one<V: ByteVector, T: ShuffleTables, R: WholeRows>(
     rows.add_times::<V>(at, added, factor_of(products.lend(), log_m));
 }
 
-// Adds a row to row `at` and to the row after it, times the factors with two logarithms. Unless there are few chunks, the
-// classes of both factors are found out before the first addition, so that a processor fetches the products of both at
-// the same time.
+// Adds a row to row `at` and to the row after it, times the factors with two logarithms. Unless there are few chunks,
+// the classes of both factors are found out before the first addition, so that a processor fetches the products of both
+// at the same time.
 #[inline(always)]
 fn add_to_two<V: ByteVector, T: ShuffleTables, R: WholeRows>(
     tables: &T,

@@ -8,7 +8,8 @@ use crate::shuffle_rows::{add_chunk_pairs, add_row};
 use crate::strided_rows::StridedRows;
 use rs_field::engine::ChangeRows;
 
-/// Rows to which whole rows are added at once. A loop over the chunks of one row holds the place of this row in registers.
+/// Rows to which whole rows are added at once. A loop over the chunks of one row holds the place of this row in
+/// registers.
 pub trait WholeRows: ChangeRows {
     ghost use Rattle.std.specs.Prelude.{◌≡◌, ◌≢◌, ◌⊎◌, ℕ, ◌<◌, ◌≤◌, length, bit_xor};
     ghost use Rattle.rs_field.specs.rows.Rows.{chunk, symbol};

@@ -77,7 +77,8 @@ fn a_sum_calls_its_engine_so_often(rt: HostRuntime) -> Result<(), Fail> {
 // after the other. Eight and nine lost originals of 60 are sums of as many syndromes, in strips of 2048 bytes. Of 100
 // originals and 30 recovery shards, seven lost originals are direct sums, 8 to 16 are sums of syndromes, and 17 are
 // found by transforms. For syndromes, the received originals are encoded. If no strip has a tail, the four blocks of 16
-// are read where they are, the first one by four calls and each other one by five.
+// are read where they are. Four calls read the groups of a block, and the last block has three groups. For each block
+// but the first one, one more call adds the groups.
 #[test]
 fn up_to_four_sums_call_their_engine_once(rt: HostRuntime) -> Result<(), Fail> {
     let tables = Tables::new(rt.alloc())?;
@@ -90,9 +91,9 @@ fn up_to_four_sums_call_their_engine_once(rt: HostRuntime) -> Result<(), Fail> {
         ((10, 4, 4), 64, 1, 0, 0),
         ((10, 5, 5), 64, 2, 0, 0),
         ((10, 5, 5), 66, 2, 50, 0),
-        ((60, 12, 8), 2048, 2, 0, 19),
-        ((60, 12, 8), 4096, 4, 0, 38),
-        ((60, 12, 9), 2048, 3, 0, 19),
+        ((60, 12, 8), 2048, 2, 0, 18),
+        ((60, 12, 8), 4096, 4, 0, 36),
+        ((60, 12, 9), 2048, 3, 0, 18),
         ((100, 30, 7), 66, 2, 700, 0),
         ((100, 30, 8), 66, 2, 64, 0),
         ((100, 30, 16), 66, 4, 256, 0),
@@ -159,8 +160,8 @@ fn calls_of_rebuild(alloc: Global, tables: &Tables, shard_bytes: usize) -> Resul
     Ok(calls.get())
 }
 
-// Eight wanted shards are not made by sums: the lost original of each strip is a sum, and the strip is encoded then. All
-// strips have one locator.
+// Eight wanted shards are not made by sums: the lost original of each strip is a sum, and the strip is encoded then.
+// All strips have one locator.
 #[test]
 fn a_rebuild_computes_one_locator(rt: HostRuntime) -> Result<(), Fail> {
     let tables = Tables::new(rt.alloc())?;

@@ -215,8 +215,8 @@ fn views(alloc: Global, shards: &[Vec<u8>]) -> Result<Vec<&[u8]>, Error> {
 }
 
 // At the high rate, each block of two or four originals is read where it is in each strip, if no strip has a tail. Of a
-// larger block, each group of four originals is read, if a shard has at least 256 bytes. A group after the last original
-// is read as zeros. For each further block of at most 16 originals, one more call reads the groups and adds them.
+// larger block, each group of four originals is read, if a shard has at least 256 bytes, but no group after the last
+// original. For each further block of at most 16 originals, one more call reads the groups and adds them.
 #[test]
 fn an_encode_reads_originals_where_they_are(rt: HostRuntime) {
     let tables = Tables::new(rt.alloc()).expect(&rt, "tables");
@@ -234,13 +234,13 @@ fn an_encode_reads_originals_where_they_are(rt: HostRuntime) {
         (4, 3, 64, 0),
         (20, 8, 64, 0),
         (20, 8, 192, 0),
-        (20, 8, 256, 8),
+        (20, 8, 256, 7),
         (20, 8, 258, 0),
-        (20, 8, 8192, 16),
+        (20, 8, 8192, 14),
         (5, 8, 256, 2),
         (8, 8, 256, 2),
-        (9, 8, 4160, 10),
-        (33, 16, 256, 14),
+        (9, 8, 4160, 8),
+        (33, 16, 256, 11),
         (16, 16, 320, 4),
         (2, 10, 64, 0),
     ] {

@@ -84,7 +84,8 @@ rows_of_groups {count} {groups} p shift n len k s words mid made is aligned poin
 -- Long rows that were added to long rows were added row by row.
 pub long_rows_added : {count groups : ℕ} (p : GroupsOf count groups) (n len k s : ℕ) (old made new : Chunks)
     → len ≡ 4 * n → k < n
-    → ((j r : ℕ) → j < len → r < groups → word_in new len j s r ≡ bit_xor (word_in old len j s r) (word_in made len j s r))
+    → ((j r : ℕ) → j < len → r < groups
+    → word_in new len j s r ≡ bit_xor (word_in old len j s r) (word_in made len j s r))
     → (q : ℕ) → q < count → word_in made n k s q ≡ bit_xor (word_in old n k s q) (word_in new n k s q)
 long_rows_added {count} {groups} p n len k s old made new is inside added q few =
     let r : ℕ = q / 4 in

@@ -106,7 +106,8 @@ backward_of_powers b c shift old mid new aligned points groups places i low =
     let word : x < 2 ^ 16 = omega (arith, points, low) in
     let u : ℕ = shift / m in
     let size : 2 ^ (b + c) ≡ 2 ^ c * m = let p = pow-add 2 b c in omega (arith, p) in
-    let few : b + c ≤ 16 = let below = exponent_below (b + c) 17 (omega (arith, size, points)) in omega (arith, below) in
+    let few : b + c ≤ 16 =
+    let below = exponent_below (b + c) 17 (omega (arith, size, points)) in omega (arith, below) in
     let inside : r < m = mod-lt i (pow_pos b) in
     let back : j * m + r ≡ i = div-add-mod' i m in
     let group : j < 2 ^ c = below_product j (2 ^ c) m r (omega (arith, back, low)) in

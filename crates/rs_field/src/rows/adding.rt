@@ -1,6 +1,6 @@
 //! Rows that are only read and added to sums, each times a factor for the row and the sum. Rows that are cleared, and
 //! the steps of sums.
-ghost use Rattle.std.specs.Prelude.{◌≡◌, ℕ, ◌+◌, ◌*◌, ◌<◌, length};
+ghost use Rattle.std.specs.Prelude.{◌≡◌, ℕ, ◌+◌, ◌*◌, ◌<◌, length, replicate};
 ghost use Rattle.rs_field.specs.rows.AddedRows.{clear_steps};
 ghost use Rattle.rs_field.specs.rows.Rows.{chunk, symbol};
 ghost use Rattle.rs_field.specs.rows.Written.{held};
@@ -49,7 +49,7 @@ pub fn prepare(steps: &mut Steps, x: &mut [[u8; 64]], writing: Writing)
 
 /// Clears a row.
 pub fn clear(x: &mut [[u8; 64]])
-    ensures { (k s : ℕ) → k < length x.old → s < 32 → symbol (chunk x.new k) s ≡ 0 }
+    ensures { (k : ℕ) → k < length x.old → chunk x.new k ≡ replicate 64 0 }
 {
     for chunk in x.iter_mut() {
         *chunk = [0; 64];

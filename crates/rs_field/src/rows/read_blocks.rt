@@ -1,18 +1,19 @@
 //! The backward transform of many rows that are only read. Groups of four rows are transformed first, and then the
-//! groups, as rows that are four times as long.
-ghost use Rattle.std.specs.Prelude.{◌≡◌, ℕ, ◌+◌, ◌*◌, ◌/◌, ◌%◌, ◌^◌, ◌<◌, ◌≤◌, length};
-ghost use Rattle.rs_field.specs.rows.Rows.{SameOutside, word_in};
+//! groups, as rows that are four times as long. Groups of which no row is used are zero, and no transform reads them.
+ghost use Rattle.std.specs.Prelude.{◌≡◌, ℕ, ◌+◌, ◌*◌, ◌/◌, ◌%◌, ◌^◌, ◌<◌, ◌≤◌, length, replicate};
+ghost use Rattle.rs_field.specs.rows.Rows.{SameOutside, chunk, word_in};
 ghost use Rattle.rs_field.specs.rows.Written.{AreWritten, AreGroupsWritten};
 ghost use Rattle.rs_field.specs.words.StepBounds.{CountsUpTo, transform_steps};
 ghost use Rattle.rs_field.specs.words.Transform.{IsBackward};
 
+use super::adding::clear;
 use super::engine::Engine;
 use super::read_transform::{ifft_of_rows, transform_backward};
 use super::reading::{ReadRows, Writing, write_rows};
 use crate::words::Steps;
 
-/// Writes the backward transform of at least eight rows at `skew_delta` to the rows that lie end to end in `x`, in place
-/// of what these hold.
+/// Writes the backward transform of at least eight rows at `skew_delta` to the rows that lie end to end in `x`, in
+/// place of what these hold.
 pub fn ifft_of_many<E: Engine, R: ReadRows>(
     engine: &E,
     steps: &mut Steps,
@@ -32,15 +33,17 @@ pub fn ifft_of_many<E: Engine, R: ReadRows>(
         CountsUpTo (n + transform_steps n) 0 0 steps.old steps.new }
 {
     let groups = rows.count() / 4;
-    ifft_of_groups(engine, steps, x, rows, skew_delta);
+    let used = used_groups(rows);
+    ifft_of_groups(engine, steps, x, rows, used, skew_delta);
     let len = x.len() / groups;
-    transform_backward(engine, steps, x, groups, len, skew_delta / 4);
+    transform_backward(engine, steps, x, groups, len, used, skew_delta / 4);
 }
 
-/// Adds the backward transform of at least eight rows at `skew_delta` to the rows that lie end to end in `x`. `spare` has
-/// room for as many rows, and holds anything afterwards.
+/// Adds the backward transform of at least eight rows at `skew_delta` to the rows that lie end to end in `x`. `spare`
+/// has room for as many rows, and holds anything afterwards.
 ///
-/// Up to four groups are added by their last transform. More groups are transformed in place before they are added.
+/// With two or four groups, the last transform adds its result to `x`. With more, the whole transform is made in
+/// `spare` and then added.
 pub fn add_ifft_of_many<E: Engine, R: ReadRows>(
     engine: &E,
     steps: &mut Steps,
@@ -73,7 +76,7 @@ pub fn add_ifft_of_many<E: Engine, R: ReadRows>(
         };
         write_rows(steps, x, &made, Writing::Adding);
     } else {
-        ifft_of_groups(engine, steps, spare, rows, skew_delta);
+        ifft_of_groups(engine, steps, spare, rows, used_groups(rows), skew_delta);
         let groups = EndToEnd {
             chunks: spare,
             count,
@@ -83,27 +86,58 @@ pub fn add_ifft_of_many<E: Engine, R: ReadRows>(
     }
 }
 
-// Writes the backward transform of each group of four rows to the same rows of `x`.
+// Returns a number of first groups of four rows after which all rows are zero.
+fn used_groups<R: ReadRows>(rows: &R) -> usize
+    requires few { R.row_count rows.now ≤ 65536 }
+    requires fours { R.row_count rows.now % 4 ≡ 0 }
+    ensures few { result * 4 ≤ R.row_count rows.now }
+    ensures zeros { (k s i : ℕ) → k < R.row_len rows.now → s < 32 → result * 4 ≤ i
+        → i < R.row_count rows.now → R.word rows.now k s i ≡ 0 }
+{
+    (rows.used() + 3) / 4
+}
+
+// Writes the backward transform of each of the first `used` groups of four rows to the same rows of `x`, and clears the
+// rows of the other groups, which are zero.
 fn ifft_of_groups<E: Engine, R: ReadRows>(
     engine: &E,
     steps: &mut Steps,
     x: &mut [[u8; 64]],
     rows: &R,
+    used: usize,
     skew_delta: usize,
 )
     requires room { length x.old ≡ R.row_count rows.now * R.row_len rows.now }
     requires many { (d : ℕ) × (R.row_count rows.now ≡ 8 * 2 ^ d) }
     requires shift { skew_delta % R.row_count rows.now ≡ 0 }
     requires points { skew_delta + R.row_count rows.now ≤ 65536 }
+    requires used { used * 4 ≤ R.row_count rows.now }
+    requires zeros { (k s i : ℕ) → k < R.row_len rows.now → s < 32 → used * 4 ≤ i
+        → i < R.row_count rows.now → R.word rows.now k s i ≡ 0 }
     ensures length { length x.new ≡ length x.old }
     ensures written { (k s : ℕ) → k < R.row_len rows.now → s < 32
         → AreGroupsWritten (R.row_count rows.now / 4) skew_delta (R.word rows.now k s)
         (word_in x.new (R.row_len rows.now) k s) }
+    ensures zeros { (i : ℕ) → used * 4 * R.row_len rows.now ≤ i → i < length x.new
+        → chunk x.new i ≡ replicate 64 0 }
     ensures counts { CountsUpTo (2 * R.row_count rows.now) 0 0 steps.old steps.new }
 {
-    for group in 0..rows.count() / 4 {
+    let len = rows.row(0).len();
+    for group in 0..used {
         ifft_of_group(engine, steps, x, rows, group * 4, skew_delta + group * 4);
     }
+    steps.row_steps(rows.count() - used * 4);
+    clear_from(x, used * 4 * len);
+}
+
+// Clears all chunks from chunk `start` on.
+fn clear_from(x: &mut [[u8; 64]], start: usize)
+    requires { start ≤ length x.old }
+    ensures length { length x.new ≡ length x.old }
+    ensures zeros { (i : ℕ) → start ≤ i → i < length x.old → chunk x.new i ≡ replicate 64 0 }
+    ensures others { SameOutside start (length x.old) x.old x.new }
+{
+    clear(&mut x[start..]);
 }
 
 // Writes the backward transform of the four rows from row `first` on, at `shift`, to the same rows of `x`.

@@ -1,6 +1,6 @@
 //! The backward transform of rows that are only read.
-ghost use Rattle.std.specs.Prelude.{◌≡◌, ℕ, ◌+◌, ◌*◌, ◌%◌, ◌^◌, ◌<◌, ◌≤◌, length};
-ghost use Rattle.rs_field.specs.rows.Rows.{word_in};
+ghost use Rattle.std.specs.Prelude.{◌≡◌, ℕ, ◌+◌, ◌*◌, ◌%◌, ◌^◌, ◌<◌, ◌≤◌, length, replicate};
+ghost use Rattle.rs_field.specs.rows.Rows.{chunk, word_in};
 ghost use Rattle.rs_field.specs.rows.Written.{AreWritten, held, steps_before, written_steps};
 ghost use Rattle.rs_field.specs.words.StepBounds.{CountsUpTo, TransformCounts};
 ghost use Rattle.rs_field.specs.words.Transform.{forward, IsBackward};
@@ -41,7 +41,7 @@ pub fn ifft_of_rows<E: Engine, R: ReadRows>(
     let len = rows.row(0).len();
     prepare_rows(engine, steps, x, count, len, skew_delta, writing);
     write_rows(steps, x, rows, writing);
-    transform_backward(engine, steps, x, count, len, skew_delta);
+    transform_backward(engine, steps, x, count, len, count, skew_delta);
 }
 
 // Transforms the `count` rows of `len` chunks that lie end to end in `x` forward if rows are to be added to them.
@@ -92,17 +92,21 @@ fn transform_forward<E: Engine>(
     engine.fft(steps, &mut rows, 0, count, count, skew_delta);
 }
 
-/// Transforms the `count` rows of `len` chunks that lie end to end in `x` backward.
+/// Transforms the `count` rows of `len` chunks that lie end to end in `x` backward. Only the first `used` rows may hold
+/// other bytes than zeros.
 pub(crate) fn transform_backward<E: Engine>(
     engine: &E,
     steps: &mut Steps,
     x: &mut [[u8; 64]],
     count: usize,
     len: usize,
+    used: usize,
     skew_delta: usize,
 )
     requires room { length x.old ≡ count * len }
     requires power { (d : ℕ) × (count ≡ 2 ^ d) }
+    requires used { used ≤ count }
+    requires zeros { (i : ℕ) → used * len ≤ i → i < length x.old → chunk x.old i ≡ replicate 64 0 }
     requires shift { skew_delta % count ≡ 0 }
     requires points { skew_delta + count ≤ 65536 }
     ensures length { length x.new ≡ length x.old }
@@ -111,5 +115,5 @@ pub(crate) fn transform_backward<E: Engine>(
     ensures counts { TransformCounts count steps.old steps.new }
 {
     let mut rows = ShardsRefMut::new(count, len, x);
-    engine.ifft(steps, &mut rows, 0, count, count, skew_delta);
+    engine.ifft(steps, &mut rows, 0, count, used, skew_delta);
 }

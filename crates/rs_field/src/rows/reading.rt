@@ -18,7 +18,7 @@ pub enum Writing {
 
 /// Rows of equal length that are only read.
 pub trait ReadRows {
-    ghost use Rattle.std.specs.Prelude.{◌≡◌, ℕ, ◌<◌, length};
+    ghost use Rattle.std.specs.Prelude.{◌≡◌, ℕ, ◌<◌, ◌≤◌, length};
     ghost use Rattle.rs_field.specs.rows.Rows.{chunk, symbol};
 
     /// The number of rows.
@@ -40,6 +40,16 @@ pub trait ReadRows {
         ensures length { length result.now ≡ row_len self.now }
         ensures words { (k s : ℕ) → k < row_len self.now → s < 32
             → symbol (chunk result.now k) s ≡ word self.now k s index };
+
+    /// Returns a number of first rows after which all rows are zero, so that nobody needs to read these. The default
+    /// body returns the number of all rows.
+    fn used(&self) -> usize
+        ensures few { result ≤ row_count self.now }
+        ensures zeros { (k s i : ℕ) → k < row_len self.now → s < 32 → result ≤ i
+            → i < row_count self.now → word self.now k s i ≡ 0 }
+    {
+        self.count()
+    }
 }
 
 // Writes a row to another row of the same length.

@@ -1,5 +1,6 @@
 -- Originals that are read where they are: their words, and blocks of them.
-use Rattle.std.proofs.Common.{◌≡◌, ℕ, zero, suc, ◌+◌, ◌*◌, ◌/◌, ◌%◌, ◌^◌, ◌<◌, ◌≤◌, List, [], length, ◌++◌, All, inl, inr}
+use Rattle.std.proofs.Common.{◌≡◌, ℕ, zero, suc, ◌+◌, ◌*◌, ◌/◌, ◌%◌, ◌^◌, ◌<◌, ◌≤◌, List, [], length, ◌++◌, All}
+use Rattle.std.proofs.Common.{inl, inr}
 use Rattle.std.proofs.Common.{Bool, true, false}
 use Rattle.std.proofs.Common.{refl, ap, ap₂, subst, ◌∙◌, arith, pow-suc}
 use Rattle.std.proofs.lemmas.Bool.{cases_lt}

@@ -1,5 +1,5 @@
 //! An encoder of the default rate without an engine, for the strips of shards. It uses the engine that is passed to
-//! each call, so an encoder and a decoder can share it.
+//! `new` and to `encode`, so an encoder and a decoder can share it.
 ghost use Rattle.std.specs.Prelude.{◌≡◌, ◌≢◌, ℕ, ◌%◌, ◌<◌, ◌≤◌, true, All, Ok, length, vec_len, min};
 ghost use Rattle.std.specs.Prelude.{IfOk, IfErr, MatchOption};
 ghost use Rattle.rs_field.specs.code.Bounds.{EncodeCountsAt};
@@ -26,7 +26,7 @@ use std::alloc::Global;
 /// An encoder of the default rate for the strips of shards, with the recovery shards of its last strip.
 #[derive(Drop)]
 pub struct StripEncoder {
-    /// The counts, and the size of the last strip, or of the largest one before the first strip.
+    /// The counts and a size: that of the last strip, or before the first one, the largest that `new` allows.
     pub(crate) configuration: Configuration,
     /// Whether originals are read where they are.
     pub(crate) reads: bool,
@@ -45,7 +45,7 @@ impl StripEncoder {
     ghost use Rattle.rs_rate.specs.objects.StripView.{code_of, coded_shards};
 
     /// Makes an encoder for strips of at most `strip_bytes` bytes of shards of this size. The smaller of these sizes is
-    /// even and not zero. With this engine, the encoder reads originals where they are if that is faster, and if no
+    /// even and not zero. The encoder reads originals where they are if that is faster with this engine, and if no
     /// strip has a tail.
     ///
     /// # Errors

@@ -1,4 +1,4 @@
-//! Decoders without an engine, for the strips of shards. They use the engine that is passed to each call.
+//! Decoders without an engine, for the strips of shards. They use the engine that is passed to `decode`.
 ghost use Rattle.std.specs.Prelude.{◌≡◌, ◌%◌, ◌<◌, ◌≤◌, Ok};
 ghost use Rattle.rs_field.specs.code.Bounds.{DecodeCountsAt};
 ghost use Rattle.rs_field.specs.code.Configuration.{Configuration as AsDefined, configuration};
@@ -65,10 +65,10 @@ impl<C: RateMarker> RateObject<(), C, DecoderRows> {
     }
 
     /// Restores the originals that were not added, and ends the round. The restored originals are then in the decoder.
-    /// Returns their number. Enough shards were added.
+    /// Returns their number. At least as many shards as originals were added.
     ///
-    /// `located` tells what the locator in the decoder was made for. It is `None` in the first round, and then for the
-    /// next round with shards of the same indexes, which makes no other one.
+    /// `located` says for which marks the decoder has a locator. Pass `None` in the first round. The call sets it: pass
+    /// it unchanged to the next round with shards of the same indexes, which does not compute the locator again.
     ///
     /// # Errors
     ///

@@ -1,5 +1,5 @@
-//! The decoding of a round, for every rate: the locator of the erased rows, the rows over the chunks, the tails, and
-//! the round's end.
+//! The decoding of a round, for every rate: by direct sums or by transforms, with the locator, the tails and the
+//! round's end.
 ghost use Rattle.std.specs.Prelude.{◌≡◌, ℕ, ◌+◌, ◌<◌, ◌≤◌};
 ghost use Rattle.std.specs.Prelude.{true, false, length, IfNone, IfOk, IfSome, MatchResult};
 ghost use Rattle.rs_field.specs.words.StepBounds.{CountsUpTo};
@@ -38,12 +38,13 @@ use rs_field::error::Error;
 struct Found {
     // True if some message agrees with all given shards.
     agrees: bool,
-    // If the entries of the locator were made, the number of first marks of given shards that they were made for.
+    // `Some(n)` if the entries are the locator for which only rows among the first n marks count as given, and `None`
+    // if no locator was made.
     located: Option<usize>,
 }
 
 // Restores the missing originals and returns their number, or fails if no message agrees with all given shards. The
-// round ends. `located` tells what the entries of the locator were made for, before and after the round.
+// round ends. `located` says for which marks the entries are the locator, before and after the round, as in `Found`.
 pub(crate) fn decode_rows<E: Engine>(
     engine: &E,
     steps: &mut Steps,

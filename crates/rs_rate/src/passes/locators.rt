@@ -11,7 +11,8 @@ use rs_field::bytes::are_words;
 use rs_field::engine::{Engine, GfElement, Steps};
 use rs_field::frame::Frame;
 
-// Computes the locator of the erased rows, at all rows. No row after the marks in `given` is given.
+// Computes the locator of the erased rows, at all rows. Rows after the marks in `given` count as not given, even if
+// their shards were received.
 pub(crate) fn make_locator<E: Engine>(
     engine: &E,
     steps: &mut Steps,
@@ -29,7 +30,8 @@ pub(crate) fn make_locator<E: Engine>(
     are_words(entries);
 }
 
-// Computes the locator of the erased rows, unless the entries are this locator already.
+// Computes the locator of the erased rows, unless `located` says that the entries were made for as many marks. The
+// marks are then the same.
 pub(crate) fn make_locator_once<E: Engine>(
     engine: &E,
     steps: &mut Steps,
@@ -53,7 +55,7 @@ pub(crate) fn make_locator_once<E: Engine>(
 }
 
 // Sets the entries of the erased rows to 1 and all other entries to 0. A row is erased if it is not known to be zero
-// and its shard is not given. No row after the marks in `given` is given.
+// and its shard is not given. Rows after the marks in `given` count as not given.
 fn mark_erased(entries: &mut [GfElement], given: &[bool], frame: Frame)
     ensures rows { (row : ℕ) → row < length entries.old
         → slice_index entries.new row ≡ erasure frame given.now row }
@@ -75,7 +77,8 @@ fn mark_unknown(entries: &mut [GfElement], frame: Frame)
     }
 }
 
-// Sets the entries of the given rows to 0. Each entry is written, so that many of them are written at once.
+// Sets the entries of the given rows to 0. Each entry is stored, changed or not, so that the compiler can store several
+// at once.
 fn clear_given(entries: &mut [GfElement], given: &[bool])
     ensures rows { (row : ℕ) → row < length entries.old
         → slice_index entries.new row

@@ -1,6 +1,6 @@
-//! The coding of the high rate over originals that are read where they are. The backward transform of the first block of
-//! originals replaces the rows of one block, and that of each further block is added to them. Blocks of more than four
-//! rows are added from spare rows.
+//! The coding of the high rate over originals that are read where they are. The backward transform of the first block
+//! of originals replaces the rows of one block, and that of each further block is added to them. Blocks of more than
+//! four rows are added from spare rows.
 ghost use Rattle.std.specs.Prelude.{◌≡◌, ℕ, ◌+◌, ◌*◌, ◌%◌, ◌<◌, ◌≤◌, ◌↔◌, All, length, IsTrue};
 ghost use Rattle.rs_field.specs.code.Counts.{high_rate, next_power};
 ghost use Rattle.rs_field.specs.rows.Layout.{row_len};
@@ -22,8 +22,8 @@ use rs_field::engine::{
 // As many zeros as the longest row that is read has.
 static ZEROS: [[u8; 64]; 64] = [[0; 64]; 64];
 
-/// Returns whether [`code_read`] can encode with this configuration: at the high rate, with blocks of more than one row,
-/// and with shards of at most 64 chunks and no tail.
+/// Returns whether [`code_read`] can encode with this configuration: at the high rate, with blocks of more than one
+/// row, and with shards of at most 64 chunks and no tail.
 pub(crate) fn can_read(configuration: Configuration) -> bool
     ensures { IsTrue result ↔ CanRead configuration }
 {
@@ -33,8 +33,8 @@ pub(crate) fn can_read(configuration: Configuration) -> bool
         && configuration.shard_bytes <= 4096
 }
 
-/// Returns whether [`code_read`] is faster than an encode of copies. With more than four rows in a block, it is not if
-/// shards have few chunks.
+/// Returns whether [`code_read`] is faster than an encode of copies, if the engine reads rows. With more than four rows
+/// in a block, it is for shards of at least 256 bytes.
 pub(crate) fn is_reading_faster(configuration: Configuration) -> bool {
     configuration.block_rows() <= 4 || configuration.shard_bytes >= 256
 }
@@ -122,12 +122,13 @@ struct MessageRows<'a, M: StripMessage> {
     ghost blank: { IsBlank len zeros.now },
     /// There is an original.
     ghost originals: { 0 < count },
-    /// After each block with an original, there is another block of the 65536 points.
+    /// The points of the block of originals from `start` on begin at `start + block`, and all are below 65536.
     ghost points: { (start : ℕ) → start % block ≡ 0 → start < count → start + 2 * block ≤ 65536 },
 }
 
 impl<'a, M: StripMessage> MessageRows<'a, M> {
-    // Sums the combinations of all blocks in the rows for one block. The other chunks are spare rows, if any are needed.
+    // Sums the backward transforms of all blocks in the rows for one block. The other chunks are spare rows, if any are
+    // needed.
     fn sum_in<E: Engine>(&self, engine: &E, steps: &mut Steps, chunks: &mut [[u8; 64]])
         requires room { length chunks.old ≡ rows_to_read self.now.block self.now.count * self.now.len }
         ensures length { length chunks.new ≡ length chunks.old }
@@ -146,7 +147,7 @@ impl<'a, M: StripMessage> MessageRows<'a, M> {
         self.sum_blocks(engine, steps, sums, spare);
     }
 
-    // Sums the combinations of all blocks in rows for one block.
+    // Sums the backward transforms of all blocks in rows for one block.
     fn sum_blocks<E: Engine>(
         &self,
         engine: &E,
@@ -178,7 +179,8 @@ impl<'a, M: StripMessage> MessageRows<'a, M> {
         }
     }
 
-    // Writes the combination whose values are the originals of the first block, and zero after them.
+    // Writes the coefficients of the polynomials whose values are the originals of the first block, and zero after
+    // them.
     fn write_first<E: Engine>(&self, engine: &E, steps: &mut Steps, sums: &mut [[u8; 64]])
         requires room { length sums.old ≡ self.now.block * self.now.len }
         ensures length { length sums.new ≡ length sums.old }
@@ -200,7 +202,8 @@ impl<'a, M: StripMessage> MessageRows<'a, M> {
         }
     }
 
-    // Adds the combination whose values are the originals of the block from `start` on, and zero after them.
+    // Adds the coefficients of the polynomials whose values are the originals of the block from `start` on, and zero
+    // after them.
     fn add_block<E: Engine>(
         &self,
         engine: &E,
@@ -273,5 +276,10 @@ impl<'a, M: StripMessage> ReadRows for BlockRows<'a, M> {
 
     fn row(&self, index: usize) -> &[[u8; 64]] {
         self.message.row(self.start + index)
+    }
+
+    fn used(&self) -> usize {
+        let left = self.message.count.saturating_sub(self.start);
+        left.min(self.message.block)
     }
 }

@@ -424,8 +424,7 @@ impl DecoderRows {
         self.recovery_given += 1;
     }
 
-    // Counts the missing originals and the surplus shards. `is_located` says whether the entries of the locator were
-    // made for these shards.
+    // Counts the missing originals and the surplus shards. `located` says for which marks the entries are the locator.
     pub(crate) fn tally(&self, located: Option<usize>) -> Tally
         requires { self.now.configuration.original_count
             ≤ self.now.originals_given + self.now.recovery_given }

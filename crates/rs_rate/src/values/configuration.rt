@@ -35,7 +35,8 @@ pub(crate) struct Tally {
     pub(crate) missing: usize,
     // The number of shards that were added beyond the number of originals.
     pub(crate) surplus: usize,
-    // If the entries of the locator were made, the number of first marks of given shards that they were made for.
+    // `Some(n)` if the entries are the locator for which only rows among the first n marks count as given, and `None`
+    // if no locator was made.
     pub(crate) located: Option<usize>,
 }
 

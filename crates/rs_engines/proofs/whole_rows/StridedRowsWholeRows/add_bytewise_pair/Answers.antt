@@ -8,7 +8,8 @@ pub returns-clause-sums : goal.returns-clause-sums
 returns-clause-sums g c =
     let some : 0 < length c.args.first.now = search rules in
     let (fit, within) = c.requires.has (length c.args.first.now - 1) (omega (arith, some)) in
-    part_changed c.args.self.now.chunks.now c.add_chunk_pairs.new.x c.args.self.now.stride _ (length c.args.first.now) c.args.at
+    part_changed c.args.self.now.chunks.now c.add_chunk_pairs.new.x c.args.self.now.stride _
+    (length c.args.first.now) c.args.at
     (λ k s v. bit_xor (bit_xor v (times_factor c.args.factors.0.log_m (symbol (chunk c.args.first.now k) s)))
     (times_factor c.args.factors.1.log_m (symbol (chunk c.args.second.now k) s)))
     (omega arith) (omega (arith, fit, some)) (omega (arith, within, some)) (search rules) c.add_chunk_pairs.ensures
@@ -17,5 +18,6 @@ pub returns-clause-others : goal.returns-clause-others
 returns-clause-others g c k s i small other =
     let some : 0 < length c.args.first.now = search rules in
     let (fit, within) = c.requires.has (length c.args.first.now - 1) (omega (arith, some)) in
-    part_kept c.args.self.now.chunks.now c.add_chunk_pairs.new.x c.args.self.now.stride _ (length c.args.first.now) c.args.at
+    part_kept c.args.self.now.chunks.now c.add_chunk_pairs.new.x c.args.self.now.stride _
+    (length c.args.first.now) c.args.at
     (omega arith) (omega (arith, fit, some)) (omega (arith, within, some)) (search rules) k s i other

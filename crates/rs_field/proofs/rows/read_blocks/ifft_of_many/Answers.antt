@@ -19,6 +19,19 @@ transform_backward-requires-clause-room g c =
     let len = chunks_of_group p n (length c.ifft_of_groups.new.x) x in
     x ∙ omega (arith, ap (λ v. v * n) p.whole, ap (λ v. c.count-groups.result / 4 * v) len)
 
+pub transform_backward-requires-clause-zeros : goal.transform_backward-requires-clause-zeros
+transform_backward-requires-clause-zeros g c i past few =
+    let size : c.count-groups.result ≡ g.R.ReadRows.row_count c.args.rows.now = c.count-groups.ensures in
+    let p = groups_of c.count-groups.result c.requires.many.0 (size ∙ c.requires.many.1)
+    (let points = c.requires.points in omega (arith, size, points)) in
+    let n : ℕ = g.R.ReadRows.row_len c.args.rows.now in
+    let x : length c.ifft_of_groups.new.x ≡ c.count-groups.result * n =
+    c.ifft_of_groups.ensures.length ∙ c.requires.room ∙ ap (λ v. v * n) (sym size) in
+    let len : length c.ifft_of_groups.new.x / (c.count-groups.result / 4) ≡ 4 * n =
+    chunks_of_group p n (length c.ifft_of_groups.new.x) x in
+    c.ifft_of_groups.ensures.zeros i
+    (omega (arith, past, ap (λ v. c.used_groups-used.result * v) len)) few
+
 pub transform_backward-requires-clause-power : goal.transform_backward-requires-clause-power
 transform_backward-requires-clause-power g c =
     let size = c.count-groups.ensures in
@@ -29,7 +42,8 @@ pub transform_backward-requires-clause-shift : goal.transform_backward-requires-
 transform_backward-requires-clause-shift g c =
     let size = c.count-groups.ensures in
     shift_of_groups (groups_of c.count-groups.result c.requires.many.0 (size ∙ c.requires.many.1)
-    (let points = c.requires.points in omega (arith, size, points))) c.args.skew_delta (rw (sym size) at c.requires.shift)
+    (let points = c.requires.points in omega (arith, size, points))) c.args.skew_delta
+    (rw (sym size) at c.requires.shift)
 
 pub returns-clause-written : goal.returns-clause-written
 returns-clause-written g c k s inside symbols =
@@ -56,4 +70,5 @@ returns-clause-counts g c =
     let size : c.count-groups.result ≡ g.R.ReadRows.row_count c.args.rows.now = c.count-groups.ensures in
     let p = groups_of c.count-groups.result c.requires.many.0 (size ∙ c.requires.many.1)
     (let points = c.requires.points in omega (arith, size, points)) in
-    counts_within (omega (arith, p.steps, p.whole, size, ap transform_steps size)) (counts_then c.ifft_of_groups.ensures.counts c.transform_backward.ensures.counts)
+    counts_within (omega (arith, p.steps, p.whole, size, ap transform_steps size))
+    (counts_then c.ifft_of_groups.ensures.counts c.transform_backward.ensures.counts)

@@ -1,8 +1,20 @@
-use Rattle.std.proofs.Common.{rules, ap, sym, ◌∙◌, zero-add, arith}
-use Rattle.rs_field.specs.rows.View.{word}
-use Rattle.rs_field.proofs.rows_lemmas.RowOffsets.{word_of}
+use Rattle.std.proofs.Common.{rules, ◌≡◌, ◌+◌, ◌*◌, ◌≤◌, ap, ap₂, sym, ◌∙◌, zero-add, arith}
+use Rattle.std.proofs.Math.Nat.{mul-le-mul_right}
+use Rattle.rs_field.specs.rows.Rows.{Chunks, chunk}
+use Rattle.rs_field.specs.rows.View.{cell, word}
+use Rattle.rs_field.proofs.rows_lemmas.RowOffsets.{row_within, word_of}
 use Rattle.rs_field.proofs.words_lemmas.Combination.{forward-same}
 use Rattle.rs_field.proofs.rows.read_transform.transform_backward.Goals as goal
+
+pub ifft-requires-clause-zeros : goal.ifft-requires-clause-zeros
+unfolding cell
+ifft-requires-clause-zeros g c i k inside past few =
+    let n = c.args.len in
+    let len : c.new-rows.result.shard_len_64 ≡ c.args.len = c.new-rows.ensures.len_64 in
+    let after : c.args.used * c.args.len ≤ i * c.args.len = mul-le-mul_right c.args.len (omega (arith, past)) in
+    let row = row_within i c.args.count k c.args.len (omega (arith, few)) (omega (arith, inside, len)) in
+    ap₂ (λ (chunks : Chunks) m. chunk chunks (i * m + k)) c.new-rows.ensures.chunks len
+    ∙ c.requires.zeros (i * n + k) (omega (arith, after)) (omega (arith, row, c.requires.room))
 
 pub returns-clause-values : goal.returns-clause-values
 returns-clause-values g c k s inside symbols i few =

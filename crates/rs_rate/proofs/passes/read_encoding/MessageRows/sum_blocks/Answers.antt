@@ -35,7 +35,8 @@ loop-start-init g c =
           (sums-added own.block 0 own.count words (λ q. 0) sums (omega (arith, own.some)) (zero-mod own.block)
           (λ i low. ap (zero_padded own.count words) (zero-add i)
           ∙ c.write_first.ensures.written k s inside symbols i low
-          ∙ ap (λ v. forward own.block v (λ q. bit_xor 0 (sums q)) i) (sym (zero-add own.block))) (sums-none own.block own.count _ _ (λ q few. refl)));
+          ∙ ap (λ v. forward own.block v (λ q. bit_xor 0 (sums q)) i) (sym (zero-add own.block)))
+          (sums-none own.block own.count _ _ (λ q few. refl)));
       counts = counts_within (omega arith) c.write_first.ensures.counts;
     }
 
