@@ -11,6 +11,7 @@ pub mod DecodedColumns
 pub mod BaseAnswer
 pub mod DecodeAnswer
 pub mod DirectRows
+pub mod LocatedOnce
 pub mod SumLemmas
 pub mod SplitSums
 pub mod ChangeLemmas

@@ -16,10 +16,10 @@ use rs_field::error::Error;
 pub type StripDecoder = RateObject<(), DefaultRateMarker, DecoderRows>;
 
 impl<C: RateMarker> RateObject<(), C, DecoderRows> {
-    ghost use Rattle.std.specs.Prelude.{true, false, length, IfOk, MatchResult};
+    ghost use Rattle.std.specs.Prelude.{length, IfOk, MatchResult};
     ghost use Rattle.rs_field.specs.code.Decoder.{with_original, with_recovery};
     ghost use Rattle.rs_field.specs.code.Outcome.{answer_of, state_after};
-    ghost use Rattle.rs_rate.specs.passes.Located.{AreLocated, IsLocated};
+    ghost use Rattle.rs_rate.specs.passes.Located.{AreLocated, IsLocated, LocatesOnce};
     ghost use Rattle.rs_rate.specs.rows.DecoderView.{restored_from};
     ghost use Rattle.rs_rate.specs.rows.Marks.{given_marks};
 
@@ -92,6 +92,7 @@ impl<C: RateMarker> RateObject<(), C, DecoderRows> {
         ensures located { AreLocated self.old.rows.configuration.frame
             (given_marks self.old.rows.memory.marks) located.new
             self.new.rows.memory.entries.items }
+        ensures once { LocatesOnce located.old located.new steps.old steps.new }
     {
         decode_rows(engine, steps, &mut self.rows, located)
     }

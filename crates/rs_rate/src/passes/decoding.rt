@@ -12,7 +12,7 @@ ghost use Rattle.rs_rate.specs.rows.DecoderRoom.{memory_room};
 ghost use Rattle.rs_field.specs.code.Frame.{original_row, row_count};
 ghost use Rattle.rs_rate.specs.values.Configured.{configuration_at, IsConfigured, rows_to_decode};
 ghost use Rattle.rs_rate.specs.rows.DecoderView.{decoder_state, restored_by_rows, restored_from};
-ghost use Rattle.rs_rate.specs.passes.Located.{AreLocated, IsLocated};
+ghost use Rattle.rs_rate.specs.passes.Located.{AreLocated, IsLocated, LocatesOnce};
 ghost use Rattle.rs_rate.specs.passes.Decoding.{find_steps, FindsWords, RestoresShards};
 ghost use Rattle.rs_rate.specs.rows.Marks.{CanBeRestored};
 ghost use Rattle.rs_field.specs.rows.Layout.{row_len};
@@ -67,6 +67,7 @@ pub(crate) fn decode_rows<E: Engine>(
     ensures counts { DecodeCounts (rows_to_decode rows.old.configuration) steps.old steps.new }
     ensures located { AreLocated rows.old.configuration.frame (given_marks rows.old.memory.marks)
         located.new rows.new.memory.entries.items }
+    ensures once { LocatesOnce located.old located.new steps.old steps.new }
 {
     let tally = rows.tally(*located);
     let memory = &mut rows.memory;
@@ -118,6 +119,7 @@ fn restore<E: Engine>(
     ensures counts { DecodeCounts (rows_to_decode tally.configuration) steps.old steps.new }
     ensures located { AreLocated tally.configuration.frame (given_marks marks.old) result.located
         entries.new }
+    ensures once { LocatesOnce tally.located result.located steps.old steps.new }
 {
     let configuration = tally.configuration;
     if tally.missing == 0 && tally.surplus == 0 {
@@ -158,6 +160,7 @@ fn find_words<E: Engine>(
     ensures counts { CountsUpTo (find_steps tally.configuration) 1048576 65536 steps.old steps.new }
     ensures located { AreLocated tally.configuration.frame (given_marks marks.old) result.located
         entries.new }
+    ensures once { LocatesOnce tally.located result.located steps.old steps.new }
 {
     if let Some(found) = find_by_sums(engine, steps, chunks, marks, entries, tally) {
         return found;
@@ -200,6 +203,8 @@ fn find_by_sums<E: Engine>(
         steps.old steps.new) }
     ensures located { IfSome result (λ found. AreLocated tally.configuration.frame
         (given_marks marks.old) found.located entries.new) }
+    ensures once { IfSome result (λ found.
+        LocatesOnce tally.located found.located steps.old steps.new) }
 {
     if !are_sums_used(tally) {
         return None;

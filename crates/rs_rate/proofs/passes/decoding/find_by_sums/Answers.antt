@@ -13,6 +13,7 @@ use Rattle.rs_field.proofs.words_lemmas.Counting.{counted}
 use Rattle.rs_rate.specs.values.Configured.{rows_to_decode}
 use Rattle.rs_rate.specs.passes.Decoding.{find_steps, sum_steps}
 use Rattle.rs_rate.specs.rows.Marks.{how_many}
+use Rattle.rs_rate.proofs.passes_lemmas.LocatedOnce.{located_once}
 use Rattle.rs_rate.proofs.rows_lemmas.HowMany.{how_many-most}
 use Rattle.rs_rate.proofs.passes.decoding.find_by_sums.Goals as goal
 
@@ -88,3 +89,10 @@ returns-clause-counts g c =
     c.make_locator_once.new.steps c.sum_rows-agrees.new.steps
     (c.are_sums_used.ensures.0 c.if-not-are_sums_used.false).2
     c.make_locator_once.ensures.counts sums
+
+pub returns-clause-once : goal.returns-clause-once
+returns-clause-once g c =
+    let total : length c.list_base.new.rows + c.args.tally.surplus
+    ≡ how_many (rows_to_decode c.args.tally.configuration) (is_marked c.given-given.result.now) = search rules in
+    located_once (λ stored. (c.make_locator_once.ensures.kept stored).1)
+    (c.sum_rows-agrees.ensures.counts c.args.tally.surplus total)
