@@ -4,28 +4,28 @@
  * The library turns k original shards of the same even size into r recovery shards. Any k of these k + r shards give
  * back the missing originals.
  *
- * You can cut the shards of a message into pieces, and encode or decode each piece by itself. Cut all shards at the
- * same places, and let every piece but the last end at a multiple of 64 bytes. Then you get the same bytes as from
- * whole shards. The reason is this: for whole numbers a < b, the bytes from 64a up to, but not including, 64b of all
- * shards form a message of their own. So a program can read and write streams, use several threads for one message,
- * and show progress. The memory that a call takes for its rows does not grow with the size of long shards. But a
- * decode that gets more than k shards also takes memory for the missing originals, and pieces bound it. The same holds
- * for an rs_decode_shards whose rooms do not fit.
+ * You can cut the shards of a message into pieces, and encode or decode each piece separately. Cut all shards at the
+ * same places, and let every piece but the last end at a multiple of 64 bytes. You get the same bytes as from whole
+ * shards, because each chunk of 64 bytes is coded separately: for whole numbers a < b, the bytes from 64a up to, but
+ * not including, 64b of all shards form a message of their own. So a program can read and write streams, use several
+ * threads for one message, and show progress. The memory that a call takes for its rows does not grow with the size of
+ * long shards. A decode that gets more than k shards also takes memory for the missing originals, and so does an
+ * rs_decode_shards whose rooms do not fit. Shorter pieces take less of this memory.
  *
  * On x86-64, the library holds three builds of its code: for every 64-bit processor, for x86-64-v2 (with SSE4.2) and
- * for x86-64-v3 (with AVX2). At its first call, it asks the processor and the system which of them they can run, and
+ * for x86-64-v3 (with AVX2). At its first call, it finds out which of them the processor and the system can run, and
  * all calls use the newest of these. All builds write the same bytes, and tables that one build filled serve the
- * others. On arm64, the library holds one build. rs_build_name tells which build runs. A test can have an older one by
- * setting the variable RS_BUILD of the environment before the first call.
+ * others. On arm64, the library holds one build. rs_build_name returns the name of the build that runs. A test can
+ * choose an older one by setting the variable RS_BUILD of the environment before the first call.
  *
- * rs_encode and rs_encode_shards take memory for their rows alone. Beside its rows, rs_decode takes a list of 8 bytes
- * for each original. rs_decode_shards, rs_verify and rs_reconstruct take two lists of references to shards, 24 bytes
- * for each of the k + r shards. rs_reconstruct also takes 16 bytes for each wanted shard, and 1 byte for each of the k
- * + r shards. If few shards are lost or wanted, rs_decode, rs_decode_shards and rs_reconstruct take no rows. Most calls
- * that do not encode also take a few bytes for each row of a decode and for each lost shard. C.md has a table of all
- * this memory. A decode without recovery shards takes no memory. If an entry of an array of shards or rooms has
- * NULL as its pointer, the call makes a copy of this array, and fails with RS_OUT_OF_MEMORY before all other checks if
- * it cannot allocate the copy.
+ * rs_encode and rs_encode_shards take memory for their rows alone. Apart from its rows, rs_decode takes a list of 8
+ * bytes for each original. rs_decode_shards, rs_verify and rs_reconstruct take two lists of references to shards, 24
+ * bytes for each of the k + r shards. rs_reconstruct also takes 16 bytes for each requested shard, and 1 byte for each
+ * of the k + r shards. If few shards are lost or requested, rs_decode, rs_decode_shards and rs_reconstruct take no
+ * rows. Most calls that do not encode also take a few bytes for each row of a decode and for each lost shard. C.md has
+ * a table of all this memory. A decode without recovery shards takes no memory. If an entry of an array of shards or
+ * rooms has NULL as its pointer, the call makes a copy of this array, and fails with RS_OUT_OF_MEMORY before all other
+ * checks if it cannot allocate the copy.
  *
  * A call that encodes, decodes, verifies, reconstructs or updates takes its first blocks from about 4 KB of its stack.
  * It allocates the others by malloc, or by an allocator of the program. A program that must not allocate uses the
@@ -33,8 +33,8 @@
  *
  * The caller must keep these rules. Nothing checks them:
  *   - Pointers: each pointer points to as many bytes or entries as the length that belongs to it says, and is aligned
- *     for its type. If this length is 0, the pointer may be NULL, or any other pointer. This holds for the pointers in
- *     arrays of shards too, and for those in arrays of rooms. A room is a place for a shard that a call writes. The
+ *     for its type. If this length is 0, the pointer may be NULL, or any other pointer. This is also true of the pointers
+ *     in arrays of shards and of rooms. A room is a place for a shard that a call writes. The
  *     pointer to a fault that a call writes may be NULL. The pointer to tables, and the pointer to the fault that
  *     rs_fault_text reads, are never NULL.
  *   - While a call runs, nobody else writes to memory that was passed to the call, whether the call reads or writes
