@@ -33,7 +33,7 @@
  *
  * The caller must keep these rules. Nothing checks them:
  *   - Pointers: each pointer points to as many bytes or entries as the length that belongs to it says, and is aligned
- *     for its type. If this length is 0, the pointer may be NULL, or any other pointer. This is also true of the pointers
+ *     for its type. If this length is 0, the pointer may be NULL, or any other pointer. This is also true of pointers
  *     in arrays of shards and of rooms. A room is a place for a shard that a call writes. The
  *     pointer to a fault that a call writes may be NULL. The pointer to tables, and the pointer to the fault that
  *     rs_fault_text reads, are never NULL.
