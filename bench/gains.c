@@ -12,7 +12,7 @@
 #include <time.h>
 
 enum { TURNS = 9 };
-static const size_t counts[][2] = {{4, 2}, {10, 4}, {20, 8}, {32, 32}, {100, 30}, {128, 128}, {1000, 200}};
+static const size_t counts[][2] = {{2, 2}, {4, 2}, {10, 4}, {20, 8}, {32, 32}, {100, 30}, {128, 128}, {1000, 200}};
 static const size_t sizes[] = {64, 1024, 4096, 65536, 1 << 20};
 
 /* The most seconds for a row. A slow row has fewer turns. */
