@@ -436,6 +436,41 @@ def rules():
                 run("info", at("a.rsv"), "--json", status=0 if is_sound else 4, seconds=20)
 
 
+def first_rules():
+    """Both readers refuse a description of version 1 whose blocks have more than 2^26 bytes, and more bytes than the longest file, rounded up
+    to a multiple of 4096. Otherwise a volume of 358 bytes would keep `verify` and `repair` busy for hours."""
+    large = 1 << 26
+    with Folder() as at:
+        for sizes, block, is_sound in (((1,), large, 1), ((1,), large + 2, 0), ((1,), 1 << 40, 0), ((1, 2), 1 << 40, 0), ((large,), large + 2, 0), ((large + 1,), large + 4096, 1),
+                                       ((large + 1,), large + 4098, 0), ((1, large + 4096), large + 4096, 1), ((large + 4097, 1), large + 8192, 1),
+                                       ((large - 1, large + 4096), large + 4098, 0), ((0, 1 << 40), 1 << 40, 1), (((1 << 40) - 4096,), 1 << 40, 0)):
+            items = [Item(b"%d" % number, b"x" if size else b"", size=size) for number, size in enumerate(sizes)]
+            volume = Made(items, 64, 1, version=1, numbers={"b": block}, is_coded=False).volume([])
+            try:
+                found = READER.set_of([volume]) is not None
+            except ValueError:
+                found = False
+            if found != bool(is_sound):
+                wrong(f"files of {sizes} bytes in blocks of {block} in version 1: the reader in Python {'reads' if found else 'refuses'} them")
+            write(at("a.rsv"), volume)
+            if HAS_PROGRAM:
+                said = run("info", at("a.rsv"), status=0 if is_sound else 4, seconds=20)
+                if not is_sound and "its blocks are larger than its files" not in said:
+                    wrong(f"info of files of {sizes} bytes in blocks of {block} in version 1 says {said!r}")
+        if not HAS_PROGRAM:
+            return
+        volume = Made([Item(b"a", b"x")], 64, 1, version=1, numbers={"b": 1 << 40}).volume([])
+        if len(volume) != 358:
+            wrong(f"a volume of version 1 has {len(volume)} bytes, and not 358")
+        write(at("set", "a"), b"x")
+        write(at("set", "v.rsv"), volume)
+        for words in (("verify", at("set", "v.rsv")), ("repair", at("set", "v.rsv")), ("restore", at("set", "v.rsv"), "--to", at("new"))):
+            if "its blocks are larger than its files" not in run(*words, status=4, seconds=20):
+                wrong(f"{words[0]} of a volume of version 1 with a block of 2^40 bytes does not say why it is refused")
+        if os.path.exists(at("new")) or read(at("set", "a")) != b"x" or read(at("set", "v.rsv")) != volume:
+            wrong("a volume of version 1 with a block of 2^40 bytes is refused, but files are changed")
+
+
 def no_zeros():
     """A block with a byte that is in no file and not zero counts as damaged: no file that has bytes in this block is restored."""
     with Folder() as at:
@@ -667,5 +702,5 @@ def mutants():
         wrong(f"{sum(found)} of {count} changed volumes were restored whole: these are no good mutants")
 
 
-TESTS = (flipped_bits, moved_bytes, damaged_places, whole_copies, joined_volumes, inner_volume, all_entries, longest_name, many_slashes, rules, no_zeros, first_version,
+TESTS = (flipped_bits, moved_bytes, damaged_places, whole_copies, joined_volumes, inner_volume, all_entries, longest_name, many_slashes, rules, first_rules, no_zeros, first_version,
          first_bits, first_lengths, first_repaired, mutants)

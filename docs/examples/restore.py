@@ -125,7 +125,10 @@ def read_first(text):
         entries.append(Entry(FILE, mode & 0o7777, 0, size, seconds, name, b"", None))
     names = [entry.name for entry in entries]
     check(names == sorted({*names}), "the names are not in order")
-    return checked(Description(1, b, k, r, entries, reader.take(f"{32 * (k + r)}s")), code, digest), reader.at
+    description = checked(Description(1, b, k, r, entries, reader.take(f"{32 * (k + r)}s")), code, digest)
+    longest = max((entry.size for entry in entries), default=0)
+    check(b <= max(1 << 26, -(-longest // 4096) * 4096), "the blocks are larger than the files")
+    return description, reader.at
 
 
 def read_second(text):

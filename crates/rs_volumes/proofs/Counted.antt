@@ -13,7 +13,8 @@ use Rattle.rs_volumes.specs.Description.{SetEntry, FileSet, set_of, spelling}
 use Rattle.rs_volumes.specs.Data.{blocks_of, round_up, end_after, end_of, unit_in, unit_of, data_of}
 use Rattle.rs_volumes.specs.Sound.{allows_block, entries_outcome, data_outcome}
 use Rattle.rs_volumes.specs.Sound.{set_outcome, IsSound}
-use Rattle.rs_volumes.specs.First.{blocks_in, files_outcome, first_outcome, first_spelling, IsFirstSound}
+use Rattle.rs_volumes.specs.First.{blocks_in, files_outcome, is_too_large, first_outcome, first_spelling}
+use Rattle.rs_volumes.specs.First.{IsFirstSound}
 use Rattle.rs_volumes.proofs.Fields.{bind_ok, guard_ok, guard_passed}
 
 by_cases : (b : Bool) → (b ≡ true) ⊎ (b ≡ false)
@@ -104,9 +105,11 @@ first_counts s sound =
     let block = guard_ok faults.BlockSize sound.outcome in
     let counts = guard_ok faults.Counts block.1 in
     let files = bind_ok {r = files_outcome [] s.entries}
-    {f = λ done. cond (eqb (blocks_in s.block_bytes s.entries) s.original_count) (Ok tt) (Err faults.Blocks)}
+    {f = λ done. cond (is_too_large s.block_bytes s.entries) (Err faults.LargeBlock)
+    (cond (eqb (blocks_in s.block_bytes s.entries) s.original_count) (Ok tt) (Err faults.Blocks))}
     counts.1 in
-    let same = guard_passed faults.Blocks files.2 in
+    let large = guard_ok faults.LargeBlock files.2 in
+    let same = guard_passed faults.Blocks large.1 in
     let count : blocks_in s.block_bytes s.entries ≡ s.original_count = eqb-true _ _ same.0 in
     let some : 0 < s.block_bytes = block_some s.block_bytes block.0 in
     let all = blocks_from s.block_bytes 0 s.entries some in

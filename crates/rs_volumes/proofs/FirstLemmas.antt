@@ -8,8 +8,8 @@ use Rattle.std.specs.Str.{IsUtf8, is_utf8}
 use Rattle.rs_volumes.specs.Description.{SetEntry, entry_of, entries_of}
 use Rattle.rs_volumes.specs.declared.description.Entry.{Entry}
 use Rattle.rs_volumes.specs.declared.fault.Fault.TheVariants.{Length, Name, Order}
-use Rattle.rs_volumes.specs.Data.{blocks_of}
-use Rattle.rs_volumes.specs.First.{comes_before, is_first_name, blocks_in, files_outcome}
+use Rattle.rs_volumes.specs.Data.{blocks_of, round_up}
+use Rattle.rs_volumes.specs.First.{comes_before, is_first_name, blocks_in, exceeds, files_outcome}
 
 -- ---- the order of names
 
@@ -97,6 +97,16 @@ module _ (files : List Entry) {i : ℕ} {file : Entry} (h : i < length files)
       → eqb (blocks_in block (entries_of (drop i files))) left ≡ false
   overfills_at block left lt = search (rules, cut, fills_not)
 
+  pub exceeds_at : (block : ℕ) → round_up 4096 file.size < block
+      → exceeds block (entries_of (drop i files)) ≡ exceeds block (entries_of (drop (i + 1) files))
+  unfolding exceeds
+  exceeds_at block lt = ap (exceeds block) cut ∙ rw (lt-ltb _ _ lt) refl
+
+  pub exceeds_not : (block : ℕ) → block ≤ round_up 4096 file.size
+      → exceeds block (entries_of (drop i files)) ≡ false
+  unfolding exceeds
+  exceeds_not block le = ap (exceeds block) cut ∙ rw (le-ltb _ _ le) refl
+
   pub length_fault : (previous : List ℕ) → 2 ^ 62 ≤ file.size
       → files_outcome previous (entries_of (drop i files)) ≡ Err Length
   unfolding files_outcome
@@ -124,6 +134,11 @@ module _ (files : List Entry) {i : ℕ} {file : Entry} (h : i < length files)
 pub fills_past : (files : List Entry) (i block left : ℕ) → length files ≤ i
     → eqb (blocks_in block (entries_of (drop i files))) left ≡ eqb left 0
 fills_past files i block left h = rw (drop_all i files h) (fills_end block left)
+
+pub exceeds_past : (files : List Entry) (i block : ℕ) → length files ≤ i
+    → exceeds block (entries_of (drop i files)) ≡ true
+unfolding exceeds
+exceeds_past files i block h = rw (drop_all i files h) refl
 
 pub passes_past : (files : List Entry) (i : ℕ) (previous : List ℕ) → length files ≤ i
     → files_outcome previous (entries_of (drop i files)) ≡ Ok tt

@@ -11,7 +11,7 @@ use Rattle.rs_volumes.specs.declared.fault.Fault.TheVariants as faults
 use Rattle.rs_volumes.specs.Description.{SetEntry, FileSet, OpeningFits, name_spelling, opening_spelling, opening_of}
 use Rattle.rs_volumes.specs.Reading.{◌>>=◌, number_at, name_at, opening_at, items_at}
 use Rattle.rs_volumes.specs.Names.{has_parts}
-use Rattle.rs_volumes.specs.Data.{blocks_of}
+use Rattle.rs_volumes.specs.Data.{blocks_of, round_up}
 use Rattle.rs_volumes.specs.Sound.{allows_counts, allows_block}
 
 -- ---- the spelling
@@ -126,13 +126,23 @@ files_outcome previous (f ∷ fs) =
     else if not (comes_before previous f.name) then Err faults.Order
     else files_outcome f.name fs
 
+-- whether a block of this size is larger than every file, where the length of a file is rounded up to a multiple of 4096
+unfoldable pub exceeds : ℕ → List SetEntry → Bool
+exceeds block [] = true
+exceeds block (f ∷ fs) = nat_lt (round_up 4096 f.size) block && exceeds block fs
+
+-- whether a block of this size is too large for files: larger than 2^26 bytes, and than every file
+unfoldable pub is_too_large : ℕ → List SetEntry → Bool
+is_too_large block files = nat_lt (2 ^ 26) block && exceeds block files
+
 -- success, or the first fault of a set
 unfoldable pub first_outcome : FileSet → Result (Unit {0}) Fault
 first_outcome s =
     if not (allows_block s.block_bytes) then Err faults.BlockSize
     else if not (allows_counts s.original_count s.recovery_count) then Err faults.Counts
     else files_outcome [] s.entries >>= λ _.
-    if blocks_in s.block_bytes s.entries == s.original_count then Ok tt else Err faults.Blocks
+    if is_too_large s.block_bytes s.entries then Err faults.LargeBlock
+    else if blocks_in s.block_bytes s.entries == s.original_count then Ok tt else Err faults.Blocks
 
 -- a set has a description of version 1, and its numbers fit each other
 pub record IsFirstSound (s : FileSet) : Type 0 where

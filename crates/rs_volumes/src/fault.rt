@@ -55,6 +55,8 @@ pub enum Fault {
     /// The name of an entry is a folder of the next name.
     Inside,
     /// A block has more than 4096 bytes, and more bytes than the data of the files, rounded up to a multiple of 4096.
+    /// In version 1: a block has more than 2^26 bytes, and more bytes than the longest file, rounded up to a multiple
+    /// of 4096.
     LargeBlock,
     /// The number of blocks of the files is not the number of original blocks in the description.
     Blocks,

@@ -6,10 +6,11 @@ ghost use Rattle.rs_volumes.specs.Heads.{VolumeHead, HeadFits, head_of, head_spe
 ghost use Rattle.rs_volumes.specs.Data.{blocks_of, data_of};
 ghost use Rattle.rs_volumes.specs.Reading.{Reads, Gives};
 ghost use Rattle.rs_volumes.specs.First.{is_first_name, comes_before, first_entry_at, first_entries_at, digests_in};
-ghost use Rattle.rs_volumes.specs.First.{first_description_in, blocks_in, files_outcome, first_outcome};
+ghost use Rattle.rs_volumes.specs.First.{first_description_in, blocks_in, exceeds, is_too_large};
+ghost use Rattle.rs_volumes.specs.First.{files_outcome, first_outcome};
 ghost use Rattle.rs_volumes.specs.First.{IsFirstSound, first_spelling, first_reading};
 
-use crate::checking::{allows_block, allows_counts, block_count, is_name};
+use crate::checking::{allows_block, allows_counts, block_count, is_name, round_up};
 use crate::description::{Description, Entry, Kind, Version};
 use crate::fault::{Fault, ReadError};
 use crate::numbers::{digest_in, fixed_of, magic_of, name_of, u32_at, u64_at};
@@ -21,6 +22,9 @@ pub const HEAD_BYTES: usize = 64;
 
 /// The first bytes of a head.
 pub const MAGIC: [u8; 8] = [0x89, 0x52, 0x53, 0x56, 0x0D, 0x0A, 0x1A, 0x0A];
+
+/// A block of at most this size is allowed, even if it has more bytes than every file.
+const SMALL_BLOCK: u64 = 1 << 26;
 
 /// The head of a volume of version 1: 64 bytes, which are both the first and the last bytes of the volume.
 #[derive(Clone, Copy)]
@@ -210,6 +214,26 @@ fn fills(block_bytes: u64, count: u64, files: &[Entry]) -> bool
     left == 0
 }
 
+fn exceeds(block_bytes: u64, files: &[Entry]) -> bool
+    requires sized { All (λ file. file.size < 2 ^ 62) files.now }
+    ensures { result ≡ exceeds block_bytes (entries_of files.now) }
+{
+    for file in files {
+        if block_bytes <= round_up(4096, file.size) {
+            return false;
+        }
+    }
+    true
+}
+
+#[tactic(auto, unfolding(crate::specs::First::is_too_large))]
+fn is_too_large(block_bytes: u64, files: &[Entry]) -> bool
+    requires sized { All (λ file. file.size < 2 ^ 62) files.now }
+    ensures { result ≡ is_too_large block_bytes (entries_of files.now) }
+{
+    block_bytes > SMALL_BLOCK && exceeds(block_bytes, files)
+}
+
 #[tactic(auto, unfolding(crate::specs::First::first_outcome))]
 fn check(description: &Description) -> Result<(), Fault>
     ensures { result ≡ first_outcome (set_of description.now) }
@@ -222,6 +246,9 @@ fn check(description: &Description) -> Result<(), Fault>
     }
     let files = description.entries.as_slice();
     check_files(files)?;
+    if is_too_large(description.block_bytes, files) {
+        return Err(Fault::LargeBlock);
+    }
     let count = u64::from(description.original_count);
     if !fills(description.block_bytes, count, files) {
         return Err(Fault::Blocks);
@@ -250,7 +277,7 @@ fn checked_of(alloc: Global, bytes: &[u8]) -> Result<Description, ReadError>
 /// - [`ReadError::Memory`] if memory cannot be allocated for a field.
 /// - [`ReadError::Fault`] if the description is not sound. The order of these checks is: [`Fault::BlockSize`],
 ///   [`Fault::Counts`], then for each file [`Fault::Length`], [`Fault::Name`] and [`Fault::Order`], and at the end
-///   [`Fault::Blocks`].
+///   [`Fault::LargeBlock`] and [`Fault::Blocks`].
 ///
 /// # Examples
 ///
