@@ -12,6 +12,9 @@ const BLOCKS: u64 = 2000;
 /// The code supports fewer original blocks than this.
 const MOST_BLOCKS: u64 = 65536;
 
+/// The least number of recovery blocks of a percentage, unless the set has no blocks.
+const LEAST_RECOVERY: u64 = 2;
+
 /// The default size of a block is a multiple of this number of bytes.
 const PAGE: u64 = 4096;
 
@@ -21,7 +24,7 @@ const MOST_PAGES: u64 = 1 << 28;
 /// The number of recovery blocks that a request asks for.
 #[derive(Clone, Copy)]
 pub enum Recovery {
-    /// A percentage of the number of original blocks.
+    /// A percentage of the number of original blocks, but at least 2 blocks.
     Percent(u32),
     /// A number of blocks.
     Count(u32),
@@ -153,7 +156,7 @@ fn too_much(data_bytes: u64, recovery: Recovery) -> Failure {
     )
 }
 
-// Returns the number of recovery blocks for this number of original blocks. A percentage gives at least 1 and at most
+// Returns the number of recovery blocks for this number of original blocks. A percentage gives at least 2 and at most
 // 65536 recovery blocks. A set without blocks has no recovery blocks.
 fn recovery_count(blocks: u64, recovery: Recovery) -> u32
     requires { blocks < 2 ^ 32 }
@@ -165,7 +168,7 @@ fn recovery_count(blocks: u64, recovery: Recovery) -> u32
         Recovery::Count(count) => count,
         Recovery::Percent(percent) => {
             let count = blocks * u64::from(percent) / 100;
-            count.max(1).min(65536) as u32
+            count.max(LEAST_RECOVERY).min(65536) as u32
         }
         Recovery::Spread { volumes, lose } => {
             // With this share, the volumes that are left hold at least as many blocks as there are original blocks, and

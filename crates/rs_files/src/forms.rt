@@ -130,7 +130,7 @@ const CREATE: Form = Form {
             "recovery",
             Some('r'),
             One("COUNT"),
-            "Make this many recovery blocks, e.g. 20% of the blocks or 300 [default: 10%]",
+            "Make this many recovery blocks, e.g. 300 or 20% of the blocks (at least 2) [default: 10%]",
         ),
         BLOCK,
         ACCEPT,
@@ -188,7 +188,7 @@ const UPDATE: Form = Form {
             "recovery",
             Some('r'),
             One("COUNT"),
-            "Make this many recovery blocks, e.g. 20% of the blocks or 300 [default: the share of before]",
+            "Make this many recovery blocks, e.g. 300 or 20% of the blocks (at least 2) [default: the share of before]",
         ),
         Choice(
             "block",
