@@ -1,9 +1,9 @@
 //! Puts descriptions together from their parts.
-use crate::layout::{PART_BYTES, PART_OPENING_BYTES, part_bytes};
 use rs_folders::failure::{Failure, Result};
 use rs_volumes::description::Description;
 use rs_volumes::digest::digest_of;
-use rs_volumes::read_description;
+use rs_volumes::part::{PART_BYTES, PART_OPENING_BYTES};
+use rs_volumes::{part, read_description};
 use std::alloc::{AllocError, Global};
 use std::collections::BTreeMap;
 
@@ -74,17 +74,11 @@ pub struct Part<'a> {
     pub bytes: &'a [u8],
 }
 
-/// Reads a part from the body of its record, which has the index `index`. Returns `None` if the digest of the part is
-/// wrong, or if its length is not the one that follows from the index and the number of bytes of the description.
+/// Reads a part from the body of its record, which has the index `index`. Returns `None` if the body has a fault, or if
+/// the description is larger than [`LARGEST_DESCRIPTION`].
 pub fn read_part(index: u32, body: &[u8]) -> Option<Part<'_>> {
-    let (digest, rest) = body.split_at_checked(32)?;
-    if digest_of(rest).as_slice() != digest {
-        return None;
-    }
-    let (total, bytes) = rest.split_first_chunk::<8>()?;
-    let total = u64::from_le_bytes(*total);
-    let length = bytes.len() as u64;
-    if length == 0 || total > LARGEST_DESCRIPTION || length != part_bytes(index, total) {
+    let (total, bytes) = part::read_part(index, body).ok()?;
+    if total > LARGEST_DESCRIPTION {
         return None;
     }
     Some(Part { total, bytes })

@@ -1,5 +1,6 @@
 //! Where the records lie in a volume of version 2 that this program writes. A reader does not need this to find
 //! records, but `verify` uses it to know how many records a whole volume has.
+use rs_volumes::part::{PART_BYTES, PART_OPENING_BYTES};
 use rs_volumes::record::RECORD_HEAD_BYTES;
 use std::alloc::{AllocError, Global};
 
@@ -9,13 +10,6 @@ pub const LINE_BYTES: usize = 128;
 /// The text of this line, without the blanks and the line end after it.
 const LINE: &[u8] =
     b"Reed-Solomon volume of rs_files, format 2. FORMAT.md of rs_files describes it.";
-
-/// The number of bytes of the description in each part but the last one, which can have fewer.
-pub const PART_BYTES: u64 = 4096;
-
-/// The number of bytes in the body of a part before the bytes of the description: 32 for a digest, and 8 for the number
-/// of bytes of the description.
-pub const PART_OPENING_BYTES: usize = 40;
 
 /// Returns the line of text with which a volume begins.
 ///
@@ -32,13 +26,6 @@ pub fn first_line(alloc: Global) -> Result<Vec<u8>, AllocError> {
 /// Returns whether these bytes begin with the text of the first line of a volume of version 2.
 pub fn begins_volume(bytes: &[u8]) -> bool {
     bytes.starts_with(LINE)
-}
-
-/// Returns the number of bytes of the description in the part with this index. `total` is the number of bytes of the
-/// whole description. If the result is 0, there is no part with this index.
-pub fn part_bytes(index: u32, total: u64) -> u64 {
-    let start = u64::from(index) * PART_BYTES;
-    total.saturating_sub(start).min(PART_BYTES)
 }
 
 /// How blocks are dealt to volumes: the blocks from the index `first` on, in turn.

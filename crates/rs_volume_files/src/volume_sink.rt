@@ -1,7 +1,7 @@
 //! New volumes, which are written block by block and get their names when they are whole.
 ghost use Rattle.rs_field.specs.code.Given.{nothing};
 
-use crate::layout::{Deal, Layout, PART_BYTES, first_line, part_bytes};
+use crate::layout::{Deal, Layout, first_line};
 use crate::volume::is_volume;
 use rs_folders::failure::{Failure, Result};
 use rs_folders::folders::Folders;
@@ -12,6 +12,7 @@ use rs_folders::placing::{link_or_rename, settle};
 use rs_volumes::coding_error::CodingError;
 use rs_volumes::description::Description;
 use rs_volumes::digest::digest_of;
+use rs_volumes::part::{PART_BYTES, part_bytes, write_part};
 use rs_volumes::pieces::BlockSink;
 use rs_volumes::record::{BLOCK, PART, RECORD_HEAD_BYTES, RecordHead, write_record_head};
 use std::alloc::{AllocError, Global};
@@ -421,17 +422,15 @@ fn put_part(
     total: u64,
     set: &[u8; 32],
 ) -> Result<(), AllocError> {
-    let mut rest = Vec::from_slice(alloc, &total.to_le_bytes())?;
-    rest.extend_from_slice(bytes)?;
+    let body = write_part(alloc, total, bytes)?;
     let head = RecordHead {
         kind: PART,
         index,
-        body_bytes: 32 + rest.len() as u64,
+        body_bytes: body.len() as u64,
         set: *set,
     };
     copy.extend_from_slice(write_record_head(alloc, &head)?.as_slice())?;
-    copy.extend_from_slice(&digest_of(rest.as_slice()))?;
-    copy.extend_from_slice(rest.as_slice())
+    copy.extend_from_slice(body.as_slice())
 }
 
 impl<'a, R: Files + Eprint> BlockSink for Volumes<'a, R> {

@@ -9,6 +9,7 @@ pub mod OrderLemmas
 pub mod FirstLemmas
 pub mod HeadLemmas
 pub mod RecordLemmas
+pub mod PartLemmas
 pub mod DataLemmas
 pub mod PlaceLemmas
 pub mod Layouts

@@ -4,6 +4,7 @@ pub mod Names
 pub mod Data
 pub mod Sound
 pub mod Records
+pub mod Parts
 pub mod Places
 pub mod Laid
 pub mod First

@@ -13,13 +13,15 @@ pub enum Fault {
     Magic,
     /// The version of the head of a volume is not 1.
     Version,
-    /// The check of the head of a record is not that of its bytes.
+    /// The check of the head of a record, or the digest of a part of a description, is not that of its bytes.
     Check,
     /// A number that must be zero is not.
     Reserved,
-    /// The bytes end before the last field is complete.
+    /// The bytes end before the last field is complete. For a part of a description also: it has fewer bytes than its
+    /// numbers say.
     Short,
-    /// More bytes follow the last digest or the last sum.
+    /// More bytes follow the last digest or the last sum. For a part of a description: it has more bytes than its
+    /// numbers say.
     Trailing,
     /// The number of the code is not 1.
     Code,
@@ -67,7 +69,7 @@ impl fmt::Display for Fault {
         let text = match self {
             Fault::Magic => "it does not begin as a volume does",
             Fault::Version => "its version is not 1: a newer program may read it",
-            Fault::Check => "the head of a record is damaged",
+            Fault::Check => "a record is damaged",
             Fault::Reserved => "a number that must be zero is not",
             Fault::Short => "it ends too early",
             Fault::Trailing => "bytes follow its description",

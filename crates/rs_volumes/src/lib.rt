@@ -18,6 +18,7 @@ mod names;
 mod numbers;
 mod opening;
 mod outputs;
+pub mod part;
 pub mod pieces;
 pub mod placement;
 mod reading;
