@@ -3,7 +3,7 @@
 
 - Each link to a file or to a heading of a page leads to one.
 - The index of docs/DECISIONS.md names each decision by its number and its title.
-- In the table after `<!-- claims -->` of docs/PROOF.md, each name is in one of the files of its row.
+- In the tables after `<!-- claims -->` of docs/PROOF.md and docs/FILES.md, each name is in one of the files of its row.
 - A fact of HOMES is told only on the pages that are its homes.
 
 `pages.py --paragraphs` checks nothing. It lists the paragraphs and items that have more than 8 sentences or more than 150 words.
@@ -92,16 +92,23 @@ def check_decisions():
 
 
 def check_claims():
-    """The names of the table of claims are in the files of their rows."""
-    table = (TOP / "docs/PROOF.md").read_text().split("<!-- claims -->", 1)[1].strip().split("\n\n")[0]
-    rows = [row.strip("|").split(" | ") for row in table.split("\n")[2:]]
-    for claim, clauses, files in rows:
-        paths = [path if path.startswith("rs_") else f"reed_solomon_simd/{path}" for path in re.findall(r"`([^`]+)`", files)]
-        text = "".join((TOP / "crates" / path).read_text() for path in paths)
-        for name in re.findall(r"\w+", " ".join(re.findall(r"`([^`]+)`", clauses))):
-            if not re.search(rf"\b{name}\b", text):
-                wrong(f"docs/PROOF.md: {name} is not in the files of the claim {claim.strip()!r}")
-    print(f"pages: the clauses of {len(rows)} claims are in the named files")
+    """The names of the tables of claims are in the files of their rows."""
+    count = 0
+    for page in ("docs/PROOF.md", "docs/FILES.md"):
+        table = (TOP / page).read_text().split("<!-- claims -->", 1)[1].strip().split("\n\n")[0]
+        for row in table.split("\n")[2:]:
+            check_claim(page, *row.strip("|").split(" | "))
+            count += 1
+    print(f"pages: the clauses of {count} claims are in the named files")
+
+
+def check_claim(page, claim, clauses, files):
+    """The names of a row of claims are in its files."""
+    paths = [path if path.startswith("rs_") else f"reed_solomon_simd/{path}" for path in re.findall(r"`([^`]+)`", files)]
+    text = "".join((TOP / "crates" / path).read_text() for path in paths)
+    for name in re.findall(r"\w+", " ".join(re.findall(r"`([^`]+)`", clauses))):
+        if not re.search(rf"\b{name}\b", text):
+            wrong(f"{page}: {name} is not in the files of the claim {claim.strip()!r}")
 
 
 def check_homes(pages):
