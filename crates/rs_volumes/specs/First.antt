@@ -126,7 +126,7 @@ files_outcome previous (f ∷ fs) =
     else if not (comes_before previous f.name) then Err faults.Order
     else files_outcome f.name fs
 
--- whether a block of this size is larger than every file, where the length of a file is rounded up to a multiple of 4096
+-- whether a block of this size is larger than every file, whose length is rounded up to a multiple of 4096
 unfoldable pub exceeds : ℕ → List SetEntry → Bool
 exceeds block [] = true
 exceeds block (f ∷ fs) = nat_lt (round_up 4096 f.size) block && exceeds block fs
