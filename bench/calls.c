@@ -1,11 +1,7 @@
 /* Times calls of the library for C in one thread: an encode, a decode of as many originals as possible and of one, a
-   verification with all shards, and an update of one original. It prints a row for each shape, in microseconds: medians
-   of 15 runs, each of at least 3 ms. After `make -C c`:
-
-       cc -O2 -Iinclude -o calls bench/calls.c c/out/libreed_solomon_simd.a
-       ./calls
-       RS_BUILD=x86-64-v2 ./calls
-*/
+   verification with all shards, and an update of one original. It prints a line for each call and shape: the build, the
+   numbers of originals and of recovery shards, the bytes of a shard, the call, and nanoseconds, the median of 15 runs, each
+   of at least 3 ms. bench/calls runs it several times. */
 #include "message.h"
 
 #include <stdio.h>
@@ -57,20 +53,23 @@ static double median(void (*call)(void)) {
     return runs[RUNS / 2];
 }
 
+static void show(const char *call, double microseconds) {
+    printf("%s,%zu,%zu,%zu,%s,%.1f\n", rs_build_name(), m.k, m.r, m.size, call, microseconds * 1000);
+}
+
 int main(void) {
     tables = room(sizeof *tables);
     check(rs_tables_make(tables));
-    printf("%s\n| k:r | Shard | encode | decode, most lost | decode, one lost | verify | update |\n", rs_build_name());
     for (size_t i = 0; i < sizeof shapes / sizeof *shapes; i++) {
         set_up(shapes[i][0], shapes[i][1], shapes[i][2]);
         encode();
-        double encoded = median(encode), most, one;
+        show("encode", median(encode));
         m.lost = m.k < m.r ? m.k : m.r;
-        most = median(decode);
+        show("decode", median(decode));
         m.lost = 1;
-        one = median(decode);
-        printf("| %zu:%zu | %zu | %.3g | %.3g | %.3g | %.3g | %.3g |\n", m.k, m.r, m.size, encoded, most, one,
-               median(verify), median(update) / 2);
+        show("lost1", median(decode));
+        show("verify", median(verify));
+        show("update", median(update) / 2);
         clean_up();
     }
     return 0;
