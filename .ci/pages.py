@@ -105,7 +105,7 @@ def check_claims():
 def check_claim(page, claim, clauses, files):
     """The names of a row of claims are in its files."""
     paths = [path if path.startswith("rs_") else f"reed_solomon_simd/{path}" for path in re.findall(r"`([^`]+)`", files)]
-    text = "".join((TOP / "crates" / path).read_text() for path in paths)
+    text = "".join(re.sub(r"//.*", "", (TOP / "crates" / path).read_text()) for path in paths)
     for name in re.findall(r"\w+", " ".join(re.findall(r"`([^`]+)`", clauses))):
         if not re.search(rf"\b{name}\b", text):
             wrong(f"{page}: {name} is not in the files of the claim {claim.strip()!r}")
